@@ -227,6 +227,26 @@ class Text(unittest.TestCase):
             ],
         )
 
+    def test_lines_and_waves_that_are_seldom_meant_so(self) -> None:
+        """A quarter of 2,000 ohm is above 300 ohm; 50 Hz at 50 ms has 0.4 steps a period."""
+        case = Case(1e-6, 1e-3)
+        case.line("A", "B", zc_ohm=300, tau_us=100, r_ohm=2000)
+        self.assertEqual(
+            case.told,
+            [
+                "a quarter of the resistance, 500 ohm, is above the surge impedance, 300 ohm: waves turn their sign on "
+                "the way; cut the line into shorter ones"
+            ],
+        )
+        case = Case(0.05, 1)
+        case.series("A", r_ohm=1)
+        case.cosine("A", amplitude_v=1, hz=50)
+        self.assertEqual(case.told, ["A: a period of 50 Hz has 0.4 time steps: fewer than 20"])
+        case = Case(1e-3, 1)
+        case.series("A", r_ohm=1)
+        case.cosine("A", amplitude_v=1, hz=50)
+        self.assertEqual(case.told, [])
+
     def test_names_of_the_channels(self) -> None:
         case = line_and_breaker()
         case.series("A", "", r_ohm=1, ask="iu")

@@ -189,13 +189,18 @@ class Command(unittest.TestCase):
         self.assertEqual(status, 0, told)
         self.assertIn("V SOUND: left out from 0.015300 s of the record on, since 3907 of 4801 points fit", out)
 
+    def test_another_frequency_than_the_record_s_is_told(self):
+        status, out, told = self.run_words("a.case", "m.cfg", "BUS=V BUS", "--frequency", "51.3", "--out", "f.case")
+        self.assertEqual(status, 0, told)
+        self.assertIn("the record's line frequency is 50 Hz, and the lead-in goes by 51.3 Hz", out)
+
     def test_refusals(self):
         (self.place / "there.case").write_text("")
         for words, cause in (
             (("BUS",), "it is NODE=CHANNEL"),
             (("BUS=V BUS,x",), "it is NODE=CHANNEL"),
             (("BUS=V BUSS",), "the record has no channel 'V BUSS'"),
-            (("NOBODY=V BUS",), "isn't accepted: BAD CARD"),
+            (("NOBODY=V BUS",), "a.case has no node NOBODY on a branch or switch card; it has "),
             (("TOOLONG=V BUS",), "is no name"),
             (("BUS=V BUS", "BUS=V SOUND"), "BUS is a variable of the control already"),
             (("BUS=V BUS", "--from", "1", "--to", "2"), "the record has 0 to 0.06 s"),

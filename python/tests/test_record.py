@@ -3,6 +3,7 @@
 `python3 -m tests.test_record SPOILINGS` tries so many spoilings (20,000 in the whole) with the bound of memory.
 """
 
+import io
 import math
 import os
 import random
@@ -11,6 +12,7 @@ import sys
 import tempfile
 import tracemalloc
 import unittest
+import zipfile
 from datetime import datetime
 
 import numpy as np
@@ -279,6 +281,150 @@ class ByHand(Folder):
             )
         )
         self.assertEqual((taken.names, taken.state_names), (["X.2", "X"], ["X.3"]))
+
+    def test_the_path_may_be_bytes(self):
+        self.assertEqual(read(self.files(HAND_CFG, HAND_DAT).encode()).names, ["VA", "IA"])
+
+    def test_a_record_equals_itself_alone(self):
+        path = self.files(HAND_CFG, HAND_DAT)
+        one, other = read(path), read(path)
+        self.assertTrue(one == one and one != other and len({one, other}) == 2)
+
+    def test_stamps_that_are_none(self):
+        """Of more than ten digits, and all the same, where no rate gives the times."""
+        cfg = HAND_CFG.replace(b"1\r\n1000,3", b"0\r\n0,3")
+        for stamps, words in (
+            ((0, 10_000_000_000, 100_000_000_000), "line 2: the time stamp 10000000000 isn't one of ten digits"),
+            ((0, -5, 10), "line 2: the time stamp -5 isn't one of ten digits"),
+            ((7, 7, 7), "line 1: all time stamps are the same, and no sampling rate"),
+        ):
+            dat = b"".join(b"%d,%d,1,2,0\r\n" % (place, stamp) for place, stamp in enumerate(stamps, 1)) + b"\x1a"
+            with self.assertRaisesRegex(RecordError, words):
+                read(self.files(cfg, dat))
+            if words.startswith("line 1"):
+                self.assertEqual(read(self.files(HAND_CFG, dat)).times[-1], 0.002)  # the rate gives them
+
+    def test_leap_seconds(self):
+        leap = HAND_2013.replace(b"28/11/2026,13:07:20.000000000", b"31/12/2016,23:59:60.500000000")
+        rows = [
+            (leap, b"01/01/2017,00:00:00.500000000", b"B,0", 1.0),
+            (leap, b"31/12/2016,23:59:60.700000000", b"B,0", 0.2),
+            (leap.replace(b":60.5", b":59.5"), b"01/01/2017,00:00:00.500000000", b"B,1", 2.0),
+            (leap.replace(b":60.5", b":58.5"), b"01/01/2017,00:00:00.500000000", b"B,2", 1.0),
+            (leap.replace(b":60.5", b":59.5"), b"01/01/2017,00:00:00.500000000", b"B,0", 1.0),
+            (leap.replace(b":60.5", b":59.5"), b"31/12/2016,23:59:60.500000000", b"B,1", 1.0),
+        ]
+        dat = struct.pack("<IIi", 1, 0, 1) + struct.pack("<IIi", 2, 700, 2)
+        for cfg, trigger, clock, wanted in rows:
+            with self.subTest(trigger=trigger, clock=clock):
+                text = cfg.replace(b"28/11/2026,13:07:20.000000500", trigger).replace(b"B,0", clock)
+                self.assertAlmostEqual(read(self.files(text, dat)).trigger, wanted, 9)
+
+    def test_what_stands_beside_values(self):
+        """The clock of 2013, states of a sound network, header and information."""
+        cfg = HAND_2013.replace(b"0,0\r\nB,0", b"-5h30,x\r\nA,3").replace(b"1,1A,0D", b"2,1A,1D")
+        cfg = cfg.replace(b"1,1,P\r\n", b"1,1,P\r\n1,TRIP,,,1\r\n")
+        path = self.files(cfg, b"".join(struct.pack("<IIiH", at, at, at, 1) for at in (1, 2)))
+        for ending, text in ((".hdr", "Störung\n"), (".inf", "[Public]\n")):
+            with open(path[:-4] + ending, "w", encoding="utf-8") as file:
+                file.write(text)
+        record = read(path)
+        self.assertEqual((record.clock.code, record.clock.local, record.clock.quality), ("-5h30", "x", "A"))
+        self.assertEqual((record.normal, record.header, record.information), ({"TRIP": 1}, "Störung\n", "[Public]\n"))
+        text = b"--- file type: CFG ---\r\n" + cfg.replace(b"BINARY32", b"ASCII").replace(b"2,1A,1D", b"1,1A,0D")
+        text = text.replace(b"1,TRIP,,,1\r\n", b"") + b"--- file type: INF ---\r\nabout\r\n"
+        text += b"--- file type: HDR ---\r\nhead\r\n--- file type: DAT ASCII ---\r\n1,0,5\r\n2,1,6\r\n"
+        one = read(self.files(text))
+        self.assertEqual((one.information, one.header, one.channel("X").tolist()), ("about", "head", [10.0, 12.0]))
+
+    def test_signs_of_another_record(self):
+        """States beyond those that are named, values beyond the range, the other order of bytes, a date with two
+        readings."""
+        two = HAND_2013.replace(b"1,1A,0D", b"2,1A,1D").replace(b"1,1,P\r\n", b"1,1,P\r\n1,TRIP,,,0\r\n")
+        told = read(self.files(two, b"".join(struct.pack("<IIiH", at, at, at, 6) for at in (1, 2)))).told
+        self.assertTrue(any("has states beyond the 1 that" in it for it in told), told)
+        told = read(self.files(HAND_CFG, HAND_DAT.replace(b",4,1", b",60000,1"))).told
+        self.assertTrue(any("raw values from -3 to 60000 lie beyond the range" in it for it in told), told)
+        small = HAND_2013.replace(b"-2147483648,2147483647", b"-10,10")
+        told = read(self.files(small, struct.pack("<IIi", 1, 0, 11) + struct.pack("<IIi", 2, 700, -(2**31)))).told
+        self.assertTrue(any("X: raw values from 11 to 11 lie beyond" in it for it in told), told)
+        other = b"".join(struct.pack(">IIi", at, at, 1000 * at) for at in (1, 2))
+        with self.assertRaisesRegex(RecordError, "it is big-endian, which the standard doesn't have"):
+            read(self.files(HAND_2013, other))
+        found = read(self.files(HAND_2013, other), lenient=True)
+        self.assertEqual(found.channel("X").tolist(), [2000.0, 4000.0])
+        old = HAND_CFG.replace(b",1999", b",1991").replace(b"ASCII\r\n1\r\n", b"ASCII\r\n")
+        old = old.replace(b",400,0.1,P", b"").replace(b",2000,5,S", b"").replace(b"TRIP,,,0", b"TRIP,0")
+        for date, count in ((b"03/04/1997", 1), (b"04/04/1997", 0), (b"03/28/1997", 0)):
+            told = read(self.files(old.replace(b"28/11/2026", date), HAND_DAT)).told
+            self.assertEqual(sum("dates are read month first" in it for it in told), count, told)
+
+    def test_what_recorders_write_against_the_standard(self):
+        """Each is refused, and read with `lenient`, with the values of the lawful record and a word."""
+        two = HAND_CFG.replace(b"1\r\n1000,3", b"2\r\n1000,2\r\n1000,3")
+        rows = [
+            (HAND_CFG, HAND_DAT.removesuffix(b"\r\n\x1a"), "has no end: it may be cut"),
+            (HAND_CFG, HAND_DAT.replace(b"\r\n", b",\r\n"), "end with a comma"),
+            (HAND_CFG.replace(b"28/11/2026,13:07:20.5", b"00/00/0000,00:00:00.0"), HAND_DAT, "which is no date"),
+            (HAND_CFG.removesuffix(b"1\r\n"), HAND_DAT, "is blank or missing, and taken as 1"),
+            (HAND_CFG.replace(b"ASCII\r\n1", b"ASCII\r\n"), HAND_DAT, "is blank or missing, and taken as 1"),
+            (HAND_CFG.replace(b"TRIP,,,0", b"TRIP,0"), HAND_DAT, "has 3 fields, as those of edition 1991"),
+            (two.replace(b"1000,3\r\n", b"1000,1\r\n"), HAND_DAT, "the numbers of their own samples"),
+            (two.replace(b"1000,2", b"1000,1").replace(b"1000,3", b"1000,2"), HAND_DAT, "of their own samples"),
+            (HAND_CFG.replace(b"1\r\n1000,3", b"0\r\n1000,3"), HAND_DAT, "no sampling rate is announced"),
+            (HAND_CFG.replace(b",400,0.1,P", b",1,1"), HAND_DAT, "nothing says whether"),
+            (HAND_CFG.replace(b",400,0.1,P", b",400,0.1,"), HAND_DAT, "has a ratio, and nothing says whether"),
+            (HAND_CFG.replace(b"STATION", b"NORTH, STATION"), HAND_DAT, "the name of the station has a comma"),
+            (HAND_CFG.replace(b"1000,3", b"1000,3.0"), HAND_DAT, "the last sample's number has a point"),
+        ]
+        for cfg, dat, words in rows:
+            with self.subTest(words):
+                path = self.files(cfg, dat)
+                with self.assertRaises(RecordError):
+                    read(path)
+                record = read(path, lenient=True)
+                np.testing.assert_allclose(record.channel("VA"), [4.0, np.nan, -11.0])
+                np.testing.assert_allclose(record.times, [0.0, 0.001, 0.002])
+                self.assertTrue(any(words in it for it in record.told), record.told)
+        dat = struct.pack("<IIi", 1, 0, 1) + struct.pack("<IIi", 2, 700, 2) + b"\x1a"
+        with self.assertRaisesRegex(RecordError, "stand behind the last whole sample"):
+            read(self.files(HAND_2013, dat))
+        self.assertIn("an end mark (0x1A)", read(self.files(HAND_2013, dat), lenient=True).told[0])
+        self.assertEqual(
+            read(self.files(HAND_CFG, HAND_DAT), lenient=True).told, read(self.files(HAND_CFG, HAND_DAT)).told
+        )
+
+    def test_other_alphabets(self):
+        for encoding, name in (("gbk", "电压"), ("cp1251", "Напряжение")):
+            path = self.files(HAND_CFG.replace(b"1,VA", b"1," + name.encode(encoding)), HAND_DAT)
+            self.assertNotIn(name, read(path).names)
+            self.assertEqual(read(path, encoding=encoding).names[0], name)
+        with self.assertRaisesRegex(RecordError, "there is no encoding 'klingon' for texts"):
+            read(path, encoding="klingon")
+        with self.assertRaisesRegex(RecordError, "line 3: it isn't written in ascii"):
+            read(path, encoding="ascii")
+
+    def test_packed_and_open_files(self):
+        path = self.files(HAND_CFG, HAND_DAT)
+        pack = os.path.join(self.folder, "p.zip")
+        with zipfile.ZipFile(pack, "w") as made:
+            made.writestr("deep/x.CFG", HAND_CFG)
+            made.writestr("deep/x.dat", HAND_DAT)
+            made.writestr("readme", "no record")
+        with open(path, "rb") as cfg, open(path[:-4] + ".dat", "rb") as dat, open(pack, "rb") as packed:
+            found = [read(pack), read(packed), read(cfg, dat), read(io.BytesIO(HAND_CFG), io.BytesIO(HAND_DAT))]
+            self.assertFalse(cfg.closed)
+        for record in found:
+            np.testing.assert_allclose(record.channel("IA"), [-2400.0, 3200.0, 4000.0])
+        self.assertEqual((found[0].path, found[2].path), (f"{pack}/deep/x.CFG", path))
+        with self.assertRaisesRegex(RecordError, "the data of an open configuration have to be named too"):
+            read(io.BytesIO(HAND_CFG))
+        with self.assertRaisesRegex(RecordError, "it isn't open for reading bytes"):
+            read(io.StringIO("text"))
+        with zipfile.ZipFile(pack, "a") as made:
+            made.writestr("y.cfg", HAND_CFG)
+        with self.assertRaisesRegex(RecordError, "it holds 2 records .deep/x.CFG, y.cfg., and one is read"):
+            read(pack)
 
     def test_many_names_alike(self):
         names = ["X"] * 9_000 + ["X.2", "Y"]

@@ -51,6 +51,7 @@ class State:
     phase: str
     circuit: str
     line: int
+    normal: int | None = None  # the state of a sound network, where one is given
 
 
 @dataclass(frozen=True)
@@ -59,10 +60,22 @@ class Moment:
 
     nanoseconds: int  # since the begin of year 1
     decimals: int
+    leap: bool = False  # it lies in a leap second, 23:59:60
 
     def clock(self) -> datetime:
         """The instant to the µs."""
         return datetime.min + timedelta(microseconds=self.nanoseconds // 1000)
+
+
+@dataclass(frozen=True)
+class Clock:
+    """What edition 2013 says of the recorder's clock, as it stands there: the time code (hours from UTC) and the local
+    one, the quality, and whether a leap second is in the record (1: added, 2: taken out; 0 or 3: none, unknown)."""
+
+    code: str = ""
+    local: str = ""
+    quality: str = ""
+    leap: str = ""
 
 
 @dataclass
@@ -84,6 +97,9 @@ class Configuration:
     unit: float  # s, of a time stamp; nan where two lines contradict each other
     why: str  # what contradicts, or may be cut, so that no time may come from the stamps; else empty
     told: list[str]
+    clock: Clock = Clock()
+    lenient: bool = False  # what recorders write against the standard is read, and told
+    counts: bool = False  # the numbers behind the rates may be those of their own samples
 
     @property
     def samples(self) -> int:
@@ -94,8 +110,12 @@ class Configuration:
 class Lines:
     """The lines of a text, one after the other, as fields between commas without the blanks around them."""
 
-    def __init__(self, path: str, data: bytes, before: int, base: int):
+    def __init__(
+        self, path: str, data: bytes, before: int, base: int, lenient: bool = False, encoding: str | None = None
+    ):
         self.path, self.data, self.base = path, data, base
+        self.lenient, self.encoding = lenient, encoding
+        self.told: list[str] = []
         self.at = 3 if data.startswith(b"\xef\xbb\xbf") else 0  # a mark of UTF-8
         self.number = before  # of the line that was read last
         self.open = False  # whether that line lacks its end
@@ -104,6 +124,12 @@ class Lines:
     def fault(self, cause: str) -> RecordError:
         """An error at the line that was read last."""
         return RecordError(f"{self.path}: line {self.number}: {cause}")
+
+    def allows(self, cause: str) -> bool:
+        """Whether what is against the standard is read all the same; then it is told, with the line."""
+        if self.lenient:
+            tell(self.told, f"{self.path}: line {self.number}: {cause}")
+        return self.lenient
 
     def next(self, what: str) -> list[str]:
         """The fields of the next line, which has to be there."""
@@ -129,10 +155,12 @@ class Lines:
         return [field.strip() for field in self.decoded(line.rstrip(b"\r\x1a")).split(",")]
 
     def decoded(self, line: bytes) -> str:
-        """A line's text: UTF-8 (2013), else Windows-1252, as recorders write it."""
+        """A line's text: in the encoding that is named, else UTF-8 (2013), else Windows-1252, as recorders write it."""
         try:
-            text = line.decode("utf-8")
+            text = line.decode(self.encoding or "utf-8")
         except UnicodeDecodeError:
+            if self.encoding:
+                raise self.fault(f"it isn't written in {self.encoding}") from None
             self.foreign, text = True, line.decode("cp1252", "replace")
         control = re.search("[\x80-\x9f]", text)
         if control:
@@ -172,10 +200,13 @@ def sized(lines: Lines, fields: list[str], count: int, what: str) -> list[str]:
     return fields
 
 
-def read_configuration(path: str, data: bytes, before: int = 0, base: int = 0) -> Configuration:
+def read_configuration(
+    path: str, data: bytes, before: int = 0, base: int = 0, lenient: bool = False, encoding: str | None = None
+) -> Configuration:
     """The configuration that `data`, the bytes of a cfg, holds; so many lines and bytes of the file stand before
     them."""
-    lines, told = Lines(path, data, before, base), []
+    lines = Lines(path, data, before, base, lenient, encoding)
+    told = lines.told
     station, device, revision = head(lines, told)
     analogs, states = channel_counts(lines)
     channels = [analog(lines, revision, told) for _ in range(analogs)]
@@ -183,7 +214,7 @@ def read_configuration(path: str, data: bytes, before: int = 0, base: int = 0) -
     frequency = real(lines, lines.next("the line frequency")[0], "the line frequency", math.nan)
     if frequency < 0:
         raise lines.fault(f"the line frequency is below 0: {frequency:g}")
-    rates = sampling_rates(lines, told)
+    rates, counts = sampling_rates(lines, told)
     rates_line = lines.number
     first, trigger = moments(lines, revision, told)
     form = lines.next("the form of the data")[0].upper()
@@ -191,14 +222,14 @@ def read_configuration(path: str, data: bytes, before: int = 0, base: int = 0) -
         raise lines.fault(f"the form of the data is {form[:40]!r}, none of {', '.join(FORMS)}")
     if form in FORMS[2:] and revision != 2013:
         told.append(f"the form {form} is of edition 2013, and the record is of {revision}")
-    unit, why = stamp_unit(lines, revision, first, trigger, told)
+    unit, why, clock = stamp_unit(lines, revision, first, trigger, told)
     if lines.foreign:
         told.append(f"{path} has letters that are no UTF-8: they are read as Windows-1252")
     if lines.rest():
         told.append(f"what stands behind line {lines.number} of {path} isn't read")
     return Configuration(
         path, station, device, revision, channels, bars, frequency, rates, rates_line, first, trigger, form, unit, why,
-        told,
+        told, clock, lenient, counts,
     )  # fmt: skip
 
 
@@ -209,6 +240,8 @@ def head(lines: Lines, told: list[str]) -> tuple[str, str, int]:
         raise lines.fault("no station and device, so this is no configuration of a record")
     while len(fields) > 3 and not fields[-1]:
         fields = fields[:-1]
+    if len(fields) > 3 and lines.allows("the name of the station has a comma"):
+        fields = [",".join(fields[:-2]), *fields[-2:]]
     if len(fields) > 3:
         raise lines.fault(f"station, device and edition have {len(fields)} fields, not 3")
     year = fields[2] if len(fields) == 3 else ""
@@ -242,6 +275,10 @@ def analog(lines: Lines, revision: int, told: list[str]) -> Analog:
         raise lines.fault(
             "an analog channel has 13 fields, as from 1999 on: line 1 has to name the edition, as ..,1999"
         )
+    if len(fields) == count - 1 == 12 and lines.allows(
+        "nothing says whether the channel is primary or secondary (P, S)"
+    ):
+        fields.append("")
     fields = sized(lines, fields, count, "an analog channel")
     multiplier = real(lines, fields[5], "the multiplier")
     offset = real(lines, fields[6], "the offset")
@@ -257,8 +294,9 @@ def analog(lines: Lines, revision: int, told: list[str]) -> Analog:
         known = primary > 0 and secondary > 0
         if scaling == "S" and not known:
             raise lines.fault("the channel has secondary values (S), and no ratio to its primary side")
-        if not scaling and known and primary != secondary:
-            raise lines.fault("the channel has a ratio, and nothing says whether its values are primary or secondary")
+        words = "the channel has a ratio, and nothing says whether its values are primary or secondary"
+        if not scaling and known and primary != secondary and not lines.allows(words):
+            raise lines.fault(words)
         if not known:
             primary = secondary = 1.0
     if not scaling:
@@ -272,36 +310,47 @@ def analog(lines: Lines, revision: int, told: list[str]) -> Analog:
 def state(lines: Lines, revision: int, told: list[str]) -> State:
     """The line of a status channel."""
     fields = lines.next("a status channel")
-    if revision == 1991:
+    if len(fields) == 3 and revision != 1991:
+        three = lines.allows("a status channel has 3 fields, as those of edition 1991")
+    else:
+        three = revision == 1991
+    if three:
         fields = sized(lines, fields, 3, "a status channel")
         fields = [*fields[:2], "", "", fields[2]]
     fields = sized(lines, fields + [""] * (len(fields) == 4), 5, "a status channel")
     if fields[4] not in ("", "0", "1"):
         raise lines.fault(f"the normal state is {fields[4][:40]!r}, neither 0 nor 1")
-    return State(fields[1], fields[2], fields[3], lines.number)
+    return State(fields[1], fields[2], fields[3], lines.number, int(fields[4]) if fields[4] else None)
 
 
-def sampling_rates(lines: Lines, told: list[str]) -> list[tuple[float, int]]:
-    """The sampling rates, each with the number of its last sample."""
+def sampling_rates(lines: Lines, told: list[str]) -> tuple[list[tuple[float, int]], bool]:
+    """The sampling rates, each with the number of its last sample; and whether that may be of its own samples."""
     count = whole(lines, lines.next("the number of sampling rates")[0], "the number of sampling rates")
     if count > MOST_RATES:
         raise lines.fault(f"{count} sampling rates: more than {MOST_RATES:,} aren't read")
     rates: list[tuple[float, int]] = []
+    counts = False
     for _ in range(max(1, count)):
         fields = sized(lines, lines.next("a sampling rate"), 2, "a sampling rate")
+        if re.fullmatch(r"\d+\.0*", fields[1]) and lines.allows("the last sample's number has a point"):
+            fields[1] = fields[1].partition(".")[0]
         hertz, last = real(lines, fields[0], "the sampling rate"), whole(lines, fields[1], "the last sample's number")
         if hertz < 0:
             raise lines.fault(f"the sampling rate is below 0: {hertz:g}")
-        if last <= (rates[-1][1] if rates else 0):
+        before = rates[-1][1] if rates else 0
+        if counts or 0 < last <= before and lines.allows("behind the rates stand the numbers of their own samples"):
+            counts, last = True, before + last
+        if last <= before:
             raise lines.fault(f"the last sample's number is {last}, and has to be above {rates[-1][1] if rates else 0}")
         if rates and (hertz == 0) != (rates[0][0] == 0):
             raise lines.fault("one sampling rate is 0 and another isn't")
         rates.append((hertz, last))
-    if count == 0 and rates[0][0] > 0:
-        raise lines.fault(f"no sampling rate is announced, and one of {rates[0][0]:g} Hz is given")
+    words = f"no sampling rate is announced, and one of {rates[0][0]:g} Hz is given"
+    if count == 0 and rates[0][0] > 0 and not lines.allows(words):
+        raise lines.fault(words)
     if count > 0 and rates[0][0] == 0:
         tell(told, "a sampling rate of 0 Hz is given: times come from the time stamps")
-    return rates if rates[0][0] > 0 else [(0.0, rates[-1][1])]
+    return rates if rates[0][0] > 0 else [(0.0, rates[-1][1])], counts
 
 
 def moments(lines: Lines, revision: int, told: list[str]) -> tuple[Moment | None, Moment | None]:
@@ -309,6 +358,8 @@ def moments(lines: Lines, revision: int, told: list[str]) -> tuple[Moment | None
     found = []
     for what in ("the time of the first sample", "the time of the trigger"):
         text = ",".join(lines.next(what))
+        if re.match(r"0{1,2}/0{1,2}/0{1,4},", text) and lines.allows(f"{what} is {text[:40]!r}, which is no date"):
+            text = ""
         match = MOMENT.fullmatch(text.strip(","))
         if text.strip(", ") and not match:
             raise lines.fault(f"{what} is {text[:40]!r}, no date and time as dd/mm/yyyy,hh:mm:ss.ssssss")
@@ -319,6 +370,8 @@ def moments(lines: Lines, revision: int, told: list[str]) -> tuple[Moment | None
         month_first = not month_first
         order = "month first" if month_first else "day first"
         tell(told, f"dates stand {order}, against edition {revision}: another order gives no month")
+    elif revision == 1991 and any(int(match[2]) <= 12 and int(match[1]) != int(match[2]) for match in both):
+        tell(told, "dates are read month first, as edition 1991 has them; some recorders wrote the day first")
     made: list[Moment | None] = []
     for match, number, what in found:
         made.append(None)
@@ -346,13 +399,14 @@ def moment(match: re.Match, month_first: bool) -> Moment:
         raise OverflowError
     digits = match[7] or ""
     seconds = ((days * 24 + hour) * 60 + minute) * 60 + second
-    return Moment(seconds * 10**9 + int(digits.ljust(9, "0")), len(digits))
+    return Moment(seconds * 10**9 + int(digits.ljust(9, "0")), len(digits), second == 60)
 
 
 def stamp_unit(
     lines: Lines, revision: int, first: Moment | None, trigger: Moment | None, told: list[str]
-) -> tuple[float, str]:
-    """The unit of a time stamp in s, and why none may be taken from it (else empty): the lines behind the form.
+) -> tuple[float, str, Clock]:
+    """The unit of a time stamp in s, why none may be taken from it (else empty), and the clock: the lines behind the
+    form.
 
     Stamps of 2013 are ns where the instants have more than six decimals, else µs, times the multiplier."""
     base, why = 1e-6, ""
@@ -368,20 +422,25 @@ def stamp_unit(
     elif fine == {True}:
         base = 1e-9
     if revision == 1991:
-        return base, why
-    multiplier = real(lines, lines.next("the multiplier of the time stamps")[0], "the multiplier of the time stamps")
+        return base, why, Clock()
+    what = "the multiplier of the time stamps"
+    word = lines.next(what)[0] if not lines.lenient or lines.at < len(lines.data) else ""
+    if not word and lines.allows(f"{what} is blank or missing, and taken as 1"):
+        word = "1"
+    multiplier = real(lines, word, what)
     if multiplier <= 0:
         raise lines.fault(f"the multiplier of the time stamps is {multiplier:g}, and has to be above 0")
     if lines.open:
         tell(told, f"the last line of {lines.path} has no end: it may be cut")
         why = why or f"line {lines.number}, the multiplier of the time stamps, has no end: it may be cut"
+    words: list[str] = []
     if revision == 2013:
         for what in ("time code", "quality of the clock"):
             if lines.at >= len(lines.data):
                 tell(told, f"the line of the {what} is missing, which edition 2013 wants")
                 break
-            lines.next(what)
-    return base * multiplier, why
+            words += (lines.next(what) + ["", ""])[:2]
+    return base * multiplier, why, Clock(*words)
 
 
 def tell(told: list[str], words: str) -> None:

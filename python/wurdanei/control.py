@@ -45,6 +45,7 @@ class Control:
         stop_s: float | None = None,
     ) -> None:
         """amplitude cos(2 pi hz t + phase), t from the start of the case."""
+        self._draft.sampled(name, hz)
         self._source(14, name, amplitude, (), {"frequency": hz, "phase": phase_deg}, start_s, stop_s)
 
     @writes

@@ -22,7 +22,7 @@ from .choice import assigned, chosen
 from .configuration import RecordError
 from .record import Record, read
 from .resample import at_rate, even_spacing
-from .write import Bar, Channel, Content, put, write
+from .write import EPOCH, Bar, Channel, Content, put, write
 
 MOST_SAMPLES = 50_000_000  # of a record at another rate
 BLOCK = 20_000  # lines of a table that are made at once
@@ -105,7 +105,7 @@ def main(words: list[str]) -> int:
     if own & {os.path.realpath(name) for name in (its.out, os.path.splitext(its.out)[0] + ".dat")}:
         raise RecordError(f"{its.out}: this would be written over the record that is read")
     content = converted(record, its)
-    for told in record.told:
+    for told in record.told + made_up(content, record, its):
         print(f"{its.record}: {told}")
     for channel in content.channels:
         missing = int(np.isnan(channel.values).sum())
@@ -126,6 +126,16 @@ def main(words: list[str]) -> int:
         off = "to 24 bits" if math.isnan(multiplier) else f"to half of {multiplier:g} {channel.unit}"
         print(f"{channel.name}: {off}{side}")
     return 0
+
+
+def made_up(content: Content, record: Record, its: argparse.Namespace) -> list[str]:
+    """What stands in a record that nothing told, since a record has to have it."""
+    found = []
+    if content.start is None:
+        found.append(f"no date is known: {EPOCH:%d/%m/%Y} stands for that of the first sample; --date gives it")
+    if math.isnan(record.trigger) and its.trigger is None:
+        found.append("no trigger is known: the first sample stands for it; --trigger gives it")
+    return [] if its.out.lower().endswith(".csv") else found
 
 
 def plain_text(content: Content) -> bool:

@@ -82,6 +82,12 @@ class Deck:
         cards = self.cards("a block card", "a TACS source", "a supplemental card")
         return {card[2:8].strip() for _, card in cards} | {"TIMEX", "ISTEP", "DELTAT", "ZERO", "PLUS1", "MINUS1"}
 
+    def nodes(self) -> list[str]:
+        """The names of the nodes, in the order of the cards of branches and switches."""
+        cards = self.cards("a branch card") + self.cards("a switch card")
+        names = (card[at : at + 6].strip() for _, card in cards for at in (2, 8))
+        return list(dict.fromkeys(name for name in names if name))
+
     def step(self) -> Decimal:
         """The time step in seconds."""
         return number(self.cards("the first miscellaneous card")[0][1][:8])

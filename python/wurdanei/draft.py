@@ -14,6 +14,7 @@ from . import columns, fields
 from .columns import Card
 from .fields import FieldError, Fitted
 
+FEWEST_STEPS = 20  # of a period, below which a wave isn't seen as one
 PACKAGE = os.path.dirname(os.path.abspath(__file__))
 STANDING = ("TIMEX", "ISTEP", "DELTAT", "ZERO", "PLUS1", "MINUS1")  # variables of the control that every case has
 
@@ -256,6 +257,13 @@ class Draft:
         if stop.kept <= start.kept:
             self.tell(f"{name}: the source never acts, since it stops at {stop_s} s and starts at {start_s} s")
         return {"TSTART": start.text if start.kept else "", "TSTOP": stop.text}
+
+    def sampled(self, name: str, hz: float) -> None:
+        """Tells of a wave that has too few time steps a period to be one."""
+        if fields.exact(hz, "hz") * self.dt_ps * FEWEST_STEPS > 10**12:
+            self.tell(
+                f"{name}: a period of {hz:g} Hz has {1 / (hz * self.dt):.3g} time steps: fewer than {FEWEST_STEPS}"
+            )
 
     def ask(self, asked: list[Asked], names: tuple[str, ...]) -> None:
         """Writes the output cards of these names."""

@@ -237,6 +237,11 @@ class Network:
             raise CaseError(
                 f"{what}the travel time, {tau / 1e6:g} us, is below the time step, {self._draft.dt_ps / 1e6:g} us"
             )
+        if total / 4 > zc:
+            self._draft.tell(
+                f"{what}a quarter of the resistance, {total / 4e6:g} ohm, is above the surge impedance, {zc / 1e6:g} ohm: "
+                "waves turn their sign on the way; cut the line into shorter ones"
+            )
         return int(tau // self._draft.dt_ps)
 
     @writes
@@ -409,6 +414,7 @@ class Network:
 
         Every case starts at rest: `smooth_cosine` rises slowly, and rings less.
         """
+        self._draft.sampled(node, hz)
         texts = {
             "frequency": self._draft.number(columns.SOURCE, "frequency", hz, node).text,
             "phase": self._draft.number(columns.SOURCE, "phase", phase_deg, node).text,

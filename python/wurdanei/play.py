@@ -17,7 +17,7 @@ import numpy as np
 from . import program
 from .deck import Deck, DeckError, refusal
 from .drawing import base_unit
-from .record import Record, RecordError, read
+from .record import Record, RecordError, listed, read
 
 POINTS = 64  # of a device
 CARDS = 200  # supplemental cards of a case
@@ -155,6 +155,9 @@ def play(deck: Deck, record: Record, wanted: list[Played], plan: Plan) -> list[s
                 f"{it.node} is a variable of the control already" if it.node in taken else f"{it.node!r} is no name"
             )
         taken.add(it.node)
+    for it in wanted:
+        if it.node not in (nodes := deck.nodes()):
+            raise PlayError(f"{deck.path} has no node {it.node} on a branch or switch card; it has {listed(nodes)}")
     used = len(deck.cards("a supplemental card"))
     most = most_points((CARDS - used) // len(wanted))
     if most < 2:
@@ -262,6 +265,11 @@ def planned(deck: Deck, record: Record, given: argparse.Namespace) -> tuple[Plan
     if given.every is not None and every < 1:
         raise PlayError("--every is a whole number of steps from 1 on")
     told = []
+    if given.frequency is not None and abs(record.frequency - frequency) > 1e-3 * record.frequency:
+        told.append(
+            f"the record's line frequency is {record.frequency:g} Hz, and the lead-in goes by {frequency:g} Hz: where "
+            "that isn't the wave's own, it jumps between two periods"
+        )
     if every * float(step) > 1.001 * sampling:
         left = 1 - sampling / (every * float(step))
         told.append(

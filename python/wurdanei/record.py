@@ -11,18 +11,24 @@ lawful is in `told`, each once. Source: IEEE C37.111 of 1991, 1999 and 2013.
 
 from __future__ import annotations
 
+import codecs
+import contextlib
 import math
 import mmap
 import os
 import re
+import shutil
 import stat
+import tempfile
+import zipfile
+import zlib
 from dataclasses import dataclass, field
 from datetime import datetime
-from typing import TYPE_CHECKING, BinaryIO, Iterable, Iterator
+from typing import IO, TYPE_CHECKING, BinaryIO, Iterable, Iterator, cast
 
 import numpy as np
 
-from .configuration import Analog, Configuration, RecordError, State, read_configuration, tell
+from .configuration import Analog, Clock, Configuration, RecordError, State, read_configuration, tell
 from .samples import Samples, Whole, line_of, read_samples
 
 if TYPE_CHECKING:
@@ -31,6 +37,8 @@ if TYPE_CHECKING:
 __all__ = ["Record", "RecordError", "UnknownChannel", "read"]
 
 LONGEST_HEAD = 200  # bytes of the line that begins a section of a cff
+LONGEST_TEXT = 1 << 20  # bytes of a header or an information file that are kept
+MOST_UNPACKED = 1 << 32  # bytes of a record in a zip
 BLOCK = 1 << 16  # samples whose times are made or compared at once, so that little memory is taken
 SECTION = re.compile(
     rb"-{3}\s*file\s+type\s*:\s*(\w+)(?:\s+(\w+))?\s*(?::\s*(\d{1,15})\s*)?-{3}\s*", re.IGNORECASE | re.ASCII
@@ -65,8 +73,20 @@ class Record:
     start: datetime | None  # instant of the first sample, to the us
     rates: list[tuple[float, int]]  # Hz, number of the last sample; empty where times come from time stamps
     told: list[str]  # what is unusual but lawful, each once
-    _configuration: Configuration = field(repr=False)
-    _samples: Samples = field(repr=False)
+    header: str = field(default="", repr=False)  # the text of the header (hdr), empty where there is none
+    information: str = field(default="", repr=False)  # that of the information file (inf)
+    _configuration: Configuration = field(kw_only=True)
+    _samples: Samples = field(kw_only=True)
+
+    @property
+    def clock(self) -> Clock:
+        """What edition 2013 says of the recorder's clock."""
+        return self._configuration.clock
+
+    @property
+    def normal(self) -> dict[str, int | None]:
+        """The state that each status channel has in a sound network; None where nothing says it."""
+        return {name: own.normal for name, own in zip(self.state_names, self._configuration.states)}
 
     def channel(self, name: str) -> np.ndarray:
         """Primary values of an analog channel in its unit: shape (samples,), float64, nan where missing."""
@@ -148,27 +168,126 @@ class Record:
         return self.names.index(name)
 
 
-def read(path: str | os.PathLike, dat: str | os.PathLike | None = None) -> Record:
-    """The record of a cfg (with the dat beside it, or the one that is named) or of a cff."""
-    path = os.fspath(path)
+def read(
+    path: str | os.PathLike[str] | BinaryIO,
+    dat: str | os.PathLike[str] | BinaryIO | None = None,
+    *,
+    lenient: bool = False,
+    encoding: str | None = None,
+) -> Record:
+    """The record of a cfg (with the dat beside it, or the one that is named), of a cff, or of a zip that holds one
+    record.
+
+    Both may be files that are open for reading bytes. `lenient` reads what recorders write against the standard, where
+    it has one meaning, and tells each of it; `encoding` is that of the texts, where it is neither UTF-8 nor
+    Windows-1252.
+    """
+    if encoding is not None and not _is_encoding(encoding):
+        raise RecordError(f"there is no encoding {encoding!r} for texts")
+    name = _name(path)
     try:
-        with opened(path) as file:
+        with contextlib.ExitStack() as stack:
+            file = stack.enter_context(_opened(path))
+            if zipfile.is_zipfile(file):
+                if dat is not None:
+                    raise RecordError(f"{name}: it has its data in itself (zip), and {_name(dat)} is named as well")
+                name, file, dat = _unpacked(name, file, stack)
+            file.seek(0)
             if is_one_file(file):
                 if dat is not None:
-                    raise RecordError(f"{path}: it has its data in itself (cff), and {os.fspath(dat)} is named as well")
-                configuration, start, size = read_sections(path, file)
-                return made(path, configuration, read_samples(configuration, path, file, start, size))
-            if path.lower().endswith(".dat"):
-                raise RecordError(f"{path}: this is the data; name the configuration ({os.path.splitext(path)[0]}.cfg)")
-            configuration = read_configuration(path, file.read())
-        data = os.fspath(dat) if dat is not None else data_beside(path)
-        with opened(data) as file:
-            samples = read_samples(configuration, data, file, 0, os.fstat(file.fileno()).st_size)
-        return made(path, configuration, samples)
+                    raise RecordError(f"{name}: it has its data in itself (cff), and {_name(dat)} is named as well")
+                configuration, start, size, texts = read_sections(name, file, lenient, encoding)
+                return made(name, configuration, read_samples(configuration, name, file, start, size), texts)
+            if name.lower().endswith(".dat"):
+                raise RecordError(f"{name}: this is the data; name the configuration ({os.path.splitext(name)[0]}.cfg)")
+            configuration = read_configuration(name, file.read(), 0, 0, lenient, encoding)
+            if dat is None and not isinstance(path, (str, bytes, os.PathLike)):
+                raise RecordError(f"{name}: the data of an open configuration have to be named too")
+            given: str | os.PathLike[str] | BinaryIO = data_beside(name) if dat is None else dat
+            data = stack.enter_context(_opened(given))
+            samples = read_samples(configuration, _name(given), data, 0, os.fstat(data.fileno()).st_size)
+            texts = _texts_beside(name, configuration, encoding) if dat is None else ("", "")
+        return made(name, configuration, samples, texts)
     except OSError as fault:
-        raise RecordError(f"{fault.filename or path}: {fault.strerror or fault}") from None
+        raise RecordError(f"{fault.filename or name}: {fault.strerror or fault}") from None
     except MemoryError:
-        raise RecordError(f"{path}: there isn't enough memory for it") from None
+        raise RecordError(f"{name}: there isn't enough memory for it") from None
+
+
+def _is_encoding(name: str) -> bool:
+    try:
+        return bool(codecs.lookup(name))
+    except LookupError:
+        return False
+
+
+def _name(file: str | os.PathLike[str] | BinaryIO) -> str:
+    """What a file is called."""
+    if isinstance(file, (str, bytes, os.PathLike)):
+        return os.fsdecode(file)
+    return str(getattr(file, "name", "the file"))
+
+
+def _opened(file: str | os.PathLike[str] | BinaryIO) -> BinaryIO:
+    """A file for reading; one that is open already is copied, so that it stays as it is."""
+    if isinstance(file, (str, bytes, os.PathLike)):
+        return opened(os.fsdecode(file))
+    return _copied(file)
+
+
+def _copied(file: IO[bytes]) -> BinaryIO:
+    """What an open file holds from where it stands, as a plain file that goes with its closing."""
+    made = cast(BinaryIO, tempfile.TemporaryFile())
+    try:
+        shutil.copyfileobj(file, made)
+    except (TypeError, AttributeError):
+        made.close()
+        raise RecordError(f"{_name(cast(BinaryIO, file))}: it isn't open for reading bytes") from None
+    made.seek(0)
+    return made
+
+
+def _unpacked(name: str, file: BinaryIO, stack: contextlib.ExitStack) -> tuple[str, BinaryIO, BinaryIO | None]:
+    """The one record of a zip: the name and the file of its configuration or its cff, and the file of its data."""
+    try:
+        pack = stack.enter_context(zipfile.ZipFile(file))
+        members = {it.filename: it for it in pack.infolist() if not it.is_dir()}
+        heads = [it for it in members if it.lower().endswith((".cfg", ".cff"))]
+        if len(heads) != 1:
+            raise RecordError(f"{name}: it holds {len(heads)} records ({listed(heads)}), and one is read")
+        stem, ending = os.path.splitext(heads[0])
+        datas = [it for it in members if it.lower() == stem.lower() + ".dat"]
+        wanted = [heads[0], *(datas[:1] if ending.lower() == ".cfg" else [])]
+        if ending.lower() == ".cfg" and not datas:
+            raise RecordError(f"{name}: {stem}.dat is missing beside {heads[0]}")
+        if sum(members[it].file_size for it in wanted) > MOST_UNPACKED:
+            raise RecordError(f"{name}: more than {MOST_UNPACKED:,} bytes aren't unpacked")
+        files = [stack.enter_context(_copied(stack.enter_context(pack.open(it)))) for it in wanted]
+    except (zipfile.BadZipFile, NotImplementedError, RuntimeError, EOFError, zlib.error) as fault:
+        raise RecordError(f"{name}: {fault}") from None
+    return f"{name}/{heads[0]}", files[0], files[1] if len(files) > 1 else None
+
+
+def _texts_beside(path: str, own: Configuration, encoding: str | None) -> tuple[str, str]:
+    """The texts of the header (hdr) and of the information file (inf) beside a cfg; empty where there is none."""
+    stem, ending = os.path.splitext(path)
+    found = []
+    for kind in (".hdr", ".inf"):
+        name = stem + (kind.upper() if ending.isupper() else kind)
+        try:
+            with opened(name) as file:
+                found.append(text_of(file.read(LONGEST_TEXT), encoding))
+        except (OSError, RecordError):
+            found.append("")
+    return found[0], found[1]
+
+
+def text_of(data: bytes, encoding: str | None) -> str:
+    """The text of a header or an information file, as that of a configuration, but that what isn't text is shown so."""
+    try:
+        return data.decode(encoding or "utf-8")
+    except UnicodeDecodeError:
+        return data.decode(encoding or "cp1252", "replace")
 
 
 def channel_names(path: str) -> list[tuple[str, str]]:
@@ -227,11 +346,17 @@ def sections(file: BinaryIO) -> Iterator[tuple[int, int, re.Match]]:
             at = data.find(b"\n---", at) + 1 or -1
 
 
-def read_sections(path: str, file: BinaryIO) -> tuple[Configuration, int, int]:
-    """The configuration of a cff, and the first byte and the size of its data."""
+def read_sections(
+    path: str, file: BinaryIO, lenient: bool = False, encoding: str | None = None
+) -> tuple[Configuration, int, int, tuple[str, str]]:
+    """The configuration of a cff, the first byte and the size of its data, and its header and information."""
     begin = end = None  # of the configuration
+    last, texts = (b"", 0), {b"HDR": (0, 0), b"INF": (0, 0)}  # the section before, and where its text begins
     for at, behind, match in sections(file):
         kind = match[1].upper()
+        if last[0] in texts:
+            texts[last[0]] = last[1], at
+        last = kind, behind
         if begin is not None and end is None:
             end = at
         if kind == b"DAT":
@@ -250,7 +375,8 @@ def read_sections(path: str, file: BinaryIO) -> tuple[Configuration, int, int]:
         raise RecordError(f"{path}: it has no section CFG before line {line_of(file, at)}, where the data begins")
     before = line_of(file, begin) - 1
     text, line, at, whole = file.read(end - begin), line_of(file, at), behind, os.fstat(file.fileno()).st_size
-    configuration = read_configuration(path, text, before, begin)
+    configuration = read_configuration(path, text, before, begin, lenient, encoding)
+    header, information = (_part(file, *texts[kind], encoding) for kind in (b"HDR", b"INF"))
     form = (match[2] or b"").decode().upper()
     if form != configuration.form:
         raise RecordError(
@@ -269,18 +395,27 @@ def read_sections(path: str, file: BinaryIO) -> tuple[Configuration, int, int]:
         tell(
             configuration.told, "the section of the data names no number of bytes: all to the end of the file is taken"
         )
-    return configuration, at, size
+    return configuration, at, size, (header, information)
 
 
-def made(path: str, own: Configuration, samples: Samples) -> Record:
-    """The record of a configuration and its samples."""
+def _part(file: BinaryIO, begin: int, end: int, encoding: str | None) -> str:
+    """The text between two bytes of a file."""
+    file.seek(begin)
+    return text_of(file.read(min(end - begin, LONGEST_TEXT)), encoding).strip("\r\n")
+
+
+def made(path: str, own: Configuration, samples: Samples, texts: tuple[str, str] = ("", "")) -> Record:
+    """The record of a configuration and its samples, and of the texts of its header and information."""
     told = own.told
     times = sample_times(own, samples)
     names = distinct(analog_names(own), set(), told)
     bars = distinct([bar.name or f"status {at}" for at, bar in enumerate(own.states, 1)], set(names), told)
     trigger = math.nan
     if own.first and own.trigger:
-        trigger = (own.trigger.nanoseconds - own.first.nanoseconds) * 1e-9
+        leap = leap_between(own)
+        trigger = (own.trigger.nanoseconds - own.first.nanoseconds) * 1e-9 + leap
+        if leap:
+            tell(told, f"a leap second stands between the first sample and the trigger, which is at {trigger:g} s")
         if trigger < 0:
             tell(told, f"the trigger stands {-trigger:g} s before the first sample")
         elif trigger > times[-1] + 1e-6:
@@ -302,6 +437,8 @@ def made(path: str, own: Configuration, samples: Samples) -> Record:
         start=own.first.clock() if own.first else None,
         rates=own.rates if own.rates[0][0] > 0 else [],
         told=told,
+        header=texts[0],
+        information=texts[1],
         _configuration=own,
         _samples=samples,
     )
@@ -368,6 +505,21 @@ def listed(names: Iterable[str]) -> str:
     return (", ".join(names[:20]) or "none") + (f" and {len(names) - 20} more" if len(names) > 20 else "")
 
 
+def leap_between(own: Configuration) -> int:
+    """How many leap seconds stand between the instants of the first sample and of the trigger: 1, 0, or -1 where one was
+    taken out."""
+    if own.first is None or own.trigger is None:
+        return 0
+    minute = 60 * 10**9
+    first, trigger = own.first, own.trigger
+    begin = first.nanoseconds // minute * minute if first.leap else -(-first.nanoseconds // minute) * minute
+    if trigger.nanoseconds < begin or trigger.leap and trigger.nanoseconds // minute * minute == begin:
+        return 0  # before the next minute begins, or in its leap second
+    if first.leap:
+        return 1
+    return {"1": 1, "2": -1}.get(own.clock.leap, 0)
+
+
 def sample_times(own: Configuration, samples: Samples) -> np.ndarray:
     """The times of the samples in s from the first one: by the sampling rates, else by the time stamps."""
     if own.rates[0][0] == 0:
@@ -409,6 +561,10 @@ def times_by_stamps(own: Configuration, samples: Samples) -> np.ndarray:
             raise RecordError(f"{where}: the time stamp is blank, and no sampling rate gives the time")
         if at == 0:
             first = before = block[0]
+        beyond = np.flatnonzero((block < 0) | (block >= 1e10))
+        if len(beyond):
+            words = f"the time stamp {block[beyond[0]]:.0f} isn't one of ten digits at most"
+            raise RecordError(f"{samples.where(at + beyond[0])}: {words}, and no sampling rate gives the time")
         last = np.concatenate([[before], block[:-1]])
         falls, span = block < last, np.where(last < 2.0**32, 2.0**32, 1e10)
         odd = np.flatnonzero(falls & (last - block < span / 2))
@@ -422,6 +578,8 @@ def times_by_stamps(own: Configuration, samples: Samples) -> np.ndarray:
         with np.errstate(over="ignore", invalid="ignore"):
             times[at : at + len(block)] = (block + wraps - first) * own.unit
         at, before, added = at + len(block), block[-1], wraps[-1]
+    if len(times) > 1 and times[-1] == times[0]:
+        raise RecordError(f"{samples.where(0)}: all time stamps are the same, and no sampling rate gives the times")
     if not math.isfinite(times[-1]):
         raise RecordError(f"{samples.where(len(times) - 1)}: the time stamps leave the range of numbers")
     return times

@@ -50,7 +50,12 @@ def read_samples(configuration: Configuration, path: str, file: BinaryIO, start:
     """The samples in the `size` bytes of an open file that begin at the byte `start`."""
     file.seek(start)
     made = (Text if configuration.form == "ASCII" else Binary)(configuration, path, file, start, size)
-    named = configuration.samples
+    named, rates = configuration.samples, configuration.rates
+    if configuration.lenient and not configuration.counts and made.count == sum(last for _, last in rates) != named:
+        tell(configuration.told, f"{configuration.path}: behind the rates stand the numbers of their own samples")
+        ends = np.cumsum([last for _, last in rates]).tolist()
+        configuration.rates = [(hertz, end) for (hertz, _), end in zip(rates, ends)]
+        named = made.count
     if made.count != named:
         raise RecordError(
             f"{path}: {made.count} samples, and line {configuration.rates_line} of {configuration.path} names {named}: "
@@ -73,6 +78,9 @@ class Binary(Samples):
             ]
         )
         self.path, self.start, self.width, self.missing = path, start, kind.itemsize, MISSING.get(configuration.form)
+        if configuration.lenient and size % self.width == 1 and ends_with_mark(file, start, size):
+            tell(configuration.told, f"{path}: an end mark (0x1A), which is of text, stands behind the last sample")
+            size -= 1
         if size % self.width:
             raise RecordError(
                 f"{path}: byte {start + size - size % self.width + 1}: {size % self.width} bytes stand behind the last "
@@ -83,12 +91,26 @@ class Binary(Samples):
         self.count = len(self.data)
         if self.count * self.width != size:
             raise RecordError(f"{path}: the file became shorter while it was read")
-        numbers = self.data["number"]
-        if len(numbers) > 1 and not (np.diff(numbers) == 1).all():  # of 32 bits, as they wrap
-            tell(configuration.told, "the numbers of the samples don't rise by 1 throughout")
+        if not rise_by_one(self.data["number"]):
+            swapped = self.data.byteswap()
+            if rise_by_one(swapped["number"]):
+                words = "the numbers of the samples rise by 1 with their bytes the other way round: it is big-endian"
+                if not configuration.lenient:
+                    raise RecordError(f"{path}: {words}, which the standard doesn't have")
+                self.data = swapped
+            else:
+                words = "the numbers of the samples don't rise by 1 throughout"
+            tell(configuration.told, words)
+        if len(states) % 16 and self.data["status"][:, -1].max(initial=0) >> (len(states) % 16):
+            tell(
+                configuration.told,
+                f"{path} has states beyond the {len(states)} that {configuration.path} names: it may be another record's",
+            )
         for place, channel in enumerate(analogs if configuration.form != "FLOAT32" else []):
             if channel.low >= 0 and channel.high > -MISSING[configuration.form] - 1:
                 self.signed(place, f"{configuration.path}: line {channel.line}: {channel.name}", channel.high)
+            column = self.data["analog"][:, place]
+            tell_range(configuration, place, column[column != self.missing])
 
     def signed(self, place: int, what: str, high: float) -> None:
         """Refuses a channel whose range is that of numbers without sign, where some are below 0 by their sign."""
@@ -120,11 +142,35 @@ class Binary(Samples):
         return f"{self.path}: byte {self.start + int(sample) * self.width + 1}"
 
 
+def rise_by_one(numbers: np.ndarray) -> bool:
+    """Whether the numbers of samples, of 32 bits as they wrap, rise by 1."""
+    return len(numbers) < 2 or bool((np.diff(numbers) == 1).all())
+
+
+def ends_with_mark(file: BinaryIO, start: int, size: int) -> bool:
+    """Whether the last of so many bytes is the end mark of a text; the file is at its first one then."""
+    file.seek(start + size - 1)
+    found = file.read(1) == b"\x1a"
+    file.seek(start)
+    return found
+
+
+def tell_range(configuration: Configuration, place: int, values: np.ndarray) -> None:
+    """Tells where raw values of an analog channel lie beyond the range that its line has."""
+    channel = configuration.analogs[place]
+    if len(values) and (values.min() < channel.low or values.max() > channel.high):
+        tell(
+            configuration.told,
+            f"{channel.name or f'analog {place + 1}'}: raw values from {values.min():g} to {values.max():g} lie beyond "
+            f"the range of the channel, {channel.low:g} to {channel.high:g}",
+        )
+
+
 class Text(Samples):
     """Samples of the form ASCII: whole numbers of 32 bits, and floating ones where some aren't whole."""
 
     def __init__(self, configuration: Configuration, path: str, file: BinaryIO, start: int, size: int):
-        self.path, self.told = path, configuration.told
+        self.path, self.told, self.lenient = path, configuration.told, configuration.lenient
         self.analogs = len(configuration.analogs)
         self.fields = 2 + self.analogs + len(configuration.states)
         self.marks = np.array([missing_mark(configuration.revision, channel.high) for channel in configuration.analogs])
@@ -146,6 +192,9 @@ class Text(Samples):
             self.tables.append(kept(values))
             self.bars.append(table[:, 2 + self.analogs :].astype(np.uint8))
         self.count = sum(len(piece) for piece in self.stamp_pieces)
+        for place in range(self.analogs if self.tables else 0):
+            values = self.raw(place)
+            tell_range(configuration, place, values[np.isfinite(values)])
 
     def fault(self, line: int, cause: str) -> RecordError:
         """An error at a line of the data."""
@@ -172,7 +221,10 @@ class Text(Samples):
                 raise self.fault(
                     self.line, f"longer than {self.fields} fields can be, so this is no data of {self.cfg}"
                 )
-        if rest.strip(b" \t\r"):
+        if rest.strip(b" \t\r") and self.lenient:
+            tell(self.told, f"the last line of {self.path} has no end: it may be cut")
+            yield rest + b"\n"
+        elif rest.strip(b" \t\r"):
             raise self.fault(self.line, "it has no end, and no end mark (0x1A) stands behind it: the file is cut")
 
     def parsed(self, piece: bytes) -> np.ndarray:
@@ -220,6 +272,9 @@ class Text(Samples):
     def row(self, line: bytes) -> list[float]:
         """The numbers of one line, nan where a field is blank."""
         words = line.decode("latin-1").split(",")
+        if self.lenient and len(words) == self.fields + 1 and not words[-1].strip():
+            tell(self.told, f"lines of {self.path} end with a comma")
+            words.pop()
         if len(words) != self.fields:
             raise self.fault(self.line, f"{len(words)} fields, and {self.cfg} asks for {self.fields}")
         numbers = []
