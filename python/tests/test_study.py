@@ -260,9 +260,8 @@ esac
 """
 
 
-@unittest.skipUnless(shutil.which("parallel"), "GNU parallel isn't there")
 class Parts(unittest.TestCase):
-    """What is done by parallel, with a program that stands in."""
+    """What is done part by part, with a program that stands in."""
 
     def setUp(self):
         self.room = tempfile.TemporaryDirectory()
@@ -460,7 +459,8 @@ class Whole(unittest.TestCase):
 
     def test_values_alone(self):
         out, _ = self.run_words("a.case", "--vary", "7:R=1.,3.", "--base", "100")
-        self.assertEqual(out, "2 cases: a.study/cases.csv\n")
+        self.assertEqual(out, "2 cases: a.study/cases.csv\ndrawn: a.study/cases.png\n")
+        self.assertTrue((self.place / "a.study" / "cases.png").read_bytes().startswith(b"\x89PNG"))
         rows = table_of((self.place / "a.study" / "cases.csv"), csv.DictReader)
         for row in rows:
             hand = samples((0.0105, 0.0205, 0.0305), load=float(row["7:R"]))

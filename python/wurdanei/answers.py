@@ -7,6 +7,8 @@ from dataclasses import dataclass, field
 import numpy as np
 
 from .draft import Call, CaseError
+from .parts import StudyError
+from .peaks import sets_of
 from .record import Record
 
 BAD_CARD = re.compile(r"^BAD CARD LINE (\d+) COLUMN (\d+) REASON (\d+) (\w+)$", re.MULTILINE)
@@ -149,6 +151,19 @@ class Batch:
     def channel(self, name: str) -> np.ndarray:
         """The peaks of a channel: shape (rows,)."""
         return self.peaks[:, _place(name, self.names, "channel")]
+
+    def any(self, names: str) -> np.ndarray:
+        """The greatest peak of a set of channels in each row, as IEC 60071-2 counts the case peak of three phases: shape
+        (rows,).
+
+        The set is names parted by commas, as "V RA,V RB,V RC", or a kind, as "V"; they have one unit.
+        """
+        units = [name.split(" ")[0].replace("U", "V") for name in self.names]
+        try:
+            ((_, places),) = sets_of([names], self.names, units)
+        except StudyError as fault:
+            raise UnknownName(str(fault).removeprefix("--any ")) from None
+        return self.peaks[:, places].max(1)
 
 
 def end_of(note: str, dt: float) -> End | None:

@@ -1,31 +1,43 @@
-"""Runs the parts of a study on all processors or on several machines, by GNU parallel, and goes on after a break.
+"""Runs the parts of a study on all processors, or on several machines by GNU parallel, and goes on after a break.
 
 A study has a folder. Its file study.json has the plan, what the study is of; a part has its files there, what the program
 printed (PART.out) and, written last, its exit status (PART.status), which is what says that it is done.
 """
 
+from __future__ import annotations
+
+import concurrent.futures
+import contextlib
 import hashlib
 import json
 import os
 import shlex
 import shutil
+import signal
 import subprocess
 import sys
+import threading
 import time
 from dataclasses import dataclass
 
 from . import program
+from .configuration import RecordError
 
+STATUSES = {  # of a program that printed nothing
+    4: "a file can't be read",
+    5: "a file can't be written: is the disk full?",
+    6: "there isn't enough memory",
+}
 WHOLE = 10  # below this a status is the program's own
 
 
-class StudyError(Exception):
+class StudyError(ValueError):
     """Why a study can't be made, in words."""
 
 
 @dataclass(frozen=True)
 class Job:
-    """What parallel runs for a part {}, the files that all parts share, those that a part is given, and those it makes."""
+    """What is run for a part {}, the files that all parts share, those that a part is given, and those it makes."""
 
     command: str
     shared: tuple[str, ...]
@@ -71,12 +83,10 @@ def sum_of_text(text: str) -> str:
 
 
 def need(files: list[str]) -> None:
-    """StudyError where a file or GNU parallel isn't there."""
+    """StudyError where a file isn't there."""
     for name in files:
         if "\0" in name or not os.access(name, os.R_OK):
             raise StudyError(f"{name} isn't there, or may not be read")
-    if not shutil.which("parallel"):
-        raise StudyError("a study needs GNU parallel; on Debian: apt install parallel")
 
 
 def noted_plan(means: Means, plan: dict) -> dict | None:
@@ -105,6 +115,18 @@ def note_plan(means: Means, plan: dict) -> None:
     """Notes what the study is of, once all its parts have their files."""
     with open(os.path.join(means.room, "study.json"), "w", encoding="ascii") as file:
         json.dump({**plan, "program": sum_of(program.emtp())}, file)
+
+
+def draw_values(parameters: dict[str, list[float | str]], columns: dict[str, list[float]], path: str) -> None:
+    """The picture of a study over values, where one or two of them change and matplotlib is there."""
+    from . import chart
+
+    try:
+        chart.draw_table(parameters, columns, path)
+    except RecordError as fault:
+        print(f"emtp study: no picture: {fault}", file=sys.stderr)
+    else:
+        print(f"drawn: {path}")
 
 
 def part_names(count: int) -> list[str]:
@@ -140,27 +162,75 @@ def run_parts(means: Means, parts: list[str], job: Job) -> None:
 
 
 def _run_left(means: Means, left: list[str], job: Job) -> None:
-    """One run of parallel. This machine may stand in the list of machines, as `:`: nothing is sent there, so its parts run
-    where they are."""
+    """One run of the parts that are left."""
     here = f"[ -e emtp ] || cd {shlex.quote(os.path.abspath(means.room))} || exit {WHOLE}"
     command = f"{here}; {job.command} >{{}}.out; status=$?; echo $status >{{}}.status; [ $status -lt {WHOLE} ]"
-    call = ["parallel", "--joblog", "+job.log", "--retries", "5"] + (["--bar"] if sys.stderr.isatty() else [])
     if means.machines:
-        there = ".emtp-study-" + sum_of(os.path.join(means.room, "study.json"))[:16]
-        call += [
-            "--sshloginfile",
-            os.path.abspath(means.machines),
-            "--workdir",
-            there,
-            "--basefile",
-            "emtp",
-            "--cleanup",
-        ]
-        call += [word for it in job.shared for word in ("--basefile", it)]
-        call += [word for it in job.sent for word in ("--transferfile", it)]
-        call += [word for it in (*job.made, "{}.out", "{}.status") for word in ("--return", it)]
+        _run_there(means, left, job, command)
     else:
-        call += ["--jobs", str(means.jobs)]
+        _run_here(means, left, command)
+
+
+def _run_here(means: Means, left: list[str], command: str) -> None:
+    """Runs the command for each part, so many at a time; job.log has a line a part, as it ended."""
+    running: set[subprocess.Popen[bytes]] = set()
+    ended, began, done = threading.Event(), time.monotonic(), 0
+
+    def run(part: str) -> tuple[str, float, int]:
+        if ended.is_set():
+            return part, 0.0, -1
+        first = time.monotonic()
+        call = ["sh", "-c", command.replace("{}", part)]
+        with subprocess.Popen(call, cwd=means.room, stdin=subprocess.DEVNULL, start_new_session=True) as process:
+            running.add(process)
+            if ended.is_set():
+                _end(process)
+            status = process.wait()
+            running.discard(process)
+        return part, time.monotonic() - first, status
+
+    with (
+        program.ended_in_words(),
+        open(os.path.join(means.room, "job.log"), "a", encoding="ascii") as log,
+        concurrent.futures.ThreadPoolExecutor(means.jobs) as pool,
+    ):
+        try:
+            for future in concurrent.futures.as_completed([pool.submit(run, part) for part in left]):
+                part, seconds, status = future.result()
+                log.write(f"{part} {seconds:.3f} s, status {status}\n")
+                done += 1
+                if sys.stderr.isatty():
+                    rest = (time.monotonic() - began) / done * (len(left) - done)
+                    print(f"\r{done} of {counted(len(left), 'part')}, {rest:.0f} s left   ", end="", file=sys.stderr)
+        except BaseException:
+            ended.set()
+            for process in list(running):
+                _end(process)
+            pool.shutdown(wait=True, cancel_futures=True)
+            raise
+        finally:
+            if sys.stderr.isatty() and done:
+                print(file=sys.stderr)
+
+
+def _end(process: subprocess.Popen[bytes]) -> None:
+    """Ends a part with all that it runs."""
+    with contextlib.suppress(ProcessLookupError):
+        os.killpg(process.pid, signal.SIGTERM)
+
+
+def _run_there(means: Means, left: list[str], job: Job, command: str) -> None:
+    """One run of GNU parallel over a list of machines. This one may stand among them, as `:`: nothing is sent there, so
+    its parts run where they are."""
+    if not shutil.which("parallel"):
+        raise StudyError("a study on several machines needs GNU parallel; on Debian: apt install parallel")
+    assert means.machines is not None
+    there = ".emtp-study-" + sum_of(os.path.join(means.room, "study.json"))[:16]
+    call = ["parallel", "--joblog", "+job.log", "--retries", "5"] + (["--bar"] if sys.stderr.isatty() else [])
+    call += ["--sshloginfile", os.path.abspath(means.machines), "--workdir", there, "--basefile", "emtp", "--cleanup"]
+    call += [word for it in job.shared for word in ("--basefile", it)]
+    call += [word for it in job.sent for word in ("--transferfile", it)]
+    call += [word for it in (*job.made, "{}.out", "{}.status") for word in ("--return", it)]
     with subprocess.Popen([*call, command], cwd=means.room, stdin=subprocess.PIPE, text=True) as ran:
         try:
             ran.communicate("\n".join(left) + "\n")

@@ -37,6 +37,7 @@ if TYPE_CHECKING:
 __all__ = ["Record", "RecordError", "UnknownChannel", "read"]
 
 LONGEST_HEAD = 200  # bytes of the line that begins a section of a cff
+ZIP = b"PK\x03\x04"  # with which a zip begins
 LONGEST_TEXT = 1 << 20  # bytes of a header or an information file that are kept
 MOST_UNPACKED = 1 << 32  # bytes of a record in a zip
 BLOCK = 1 << 16  # samples whose times are made or compared at once, so that little memory is taken
@@ -188,7 +189,7 @@ def read(
     try:
         with contextlib.ExitStack() as stack:
             file = stack.enter_context(_opened(path))
-            if zipfile.is_zipfile(file):
+            if file.read(len(ZIP)) == ZIP:
                 if dat is not None:
                     raise RecordError(f"{name}: it has its data in itself (zip), and {_name(dat)} is named as well")
                 name, file, dat = _unpacked(name, file, stack)

@@ -54,7 +54,7 @@ rows.csv, and values.csv with the statistics of each. The second form runs the c
 one each case of a list (a name a line): their records part000001.cfg and .dat and so on, and cases.csv. The fourth form
 writes a table: a row closes its switches at T, plus an offset that is uniform over CYCLE seconds, plus one of each pole
 of the deviation SIGMA. With --sshloginfile the parts run on several machines.
-It needs GNU parallel (Debian: parallel), for other machines rsync and ssh, for the picture matplotlib.
+For other machines it needs GNU parallel (Debian: parallel), rsync and ssh, for the pictures matplotlib.
 Exit status: 0, or 2 where a study can't be made, or none of its cases has a record.""",
     )
     words.add_argument("case", metavar="CASE", nargs="?", help=argparse.SUPPRESS)
@@ -66,7 +66,7 @@ Exit status: 0, or 2 where a study can't be made, or none of its cases has a rec
         action="append",
         default=[],
         help="LINE[,LINE..]:FIELD=VALUE[,VALUE..]: a field of lines of the case, by its name (docs/cards.md) or its "
-        "columns as 27-32, and its values, one after the other",
+        "columns as 27-32, and its values, one after the other; fields that move together are parted by ;",
     )
     words.add_argument("--peaks-from", metavar="T", type=float, help="peaks of node voltages from T seconds on")
     words.add_argument(

@@ -55,9 +55,10 @@ def first_record(words: argparse.Namespace, means: Means, cases: Cases) -> Recor
         ran = program.run(["run", "case", "made.cfg", "case.dat"], means.room)
         if ran.status not in (0, 3):
             shutil.rmtree(means.room)
-            note = ran.note.strip() or f"status {ran.status}"
+            note = ran.note.strip() or parts.STATUSES.get(ran.status, f"status {ran.status}")
             told = f" with {cases.told(0)}" if cases.headings else ""
-            raise StudyError(f"{words.case}{told}: {note}; `emtp show` says more of a case")
+            more = "; `emtp show` says more of a case" if ran.status == 2 else ""
+            raise StudyError(f"{words.case}{told}: {note}{more}")
         os.replace(os.path.join(means.room, "made.cfg"), cfg)
     return read(cfg)
 
@@ -78,7 +79,9 @@ def check_parts(
             raise StudyError(f"{words.table}: line {line}, item {match[2]}: {text}")
         if status:
             told = f" with {cases.told(it.case)}" if cases.headings else ""
-            raise StudyError(f"{it.name}, {words.case}{told}: status {status}, {note}")
+            raise StudyError(
+                f"{it.name}, {words.case}{told}: status {status}, {note or parts.STATUSES.get(status, '')}"
+            )
 
 
 def run_table(words: argparse.Namespace, means: Means) -> None:
@@ -134,7 +137,13 @@ def answer(
         if cases.headings:
             print(cases.told(place))
         print("\n".join(peaks.listing(headings, its)))
-    if not cases.headings:
+    if cases.headings:
+        seldom = {
+            f"{heading}: 2 % exceed": [peaks.statistics(its[place]).seldom for its in columns]
+            for place, heading in enumerate(headings)
+        }
+        parts.draw_values(cases.parameters(), seldom, os.path.join(means.room, "values.png"))
+    else:
         draw(headings, columns[0], os.path.join(means.room, "peaks.png"))
 
 

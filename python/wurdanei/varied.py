@@ -5,11 +5,11 @@ Fields go by the one table of `columns`; as what a line is read says the proved 
 
 import itertools
 import re
-from dataclasses import dataclass
+from dataclasses import dataclass, replace
 from decimal import Decimal
 
 from . import columns
-from .deck import Deck
+from .deck import Deck, number
 
 MOST_CASES = 10_000
 LETTERS = "ABCDEFGHIJKLMNOPQRSTUVWXYZ"
@@ -29,6 +29,7 @@ class Varied:
     first: int
     last: int
     texts: tuple[str, ...]
+    tied: bool = False  # it moves together with the one before it
 
 
 def _card_of(deck: Deck, line: int) -> columns.Card:
@@ -101,9 +102,29 @@ def varied_of(deck: Deck, asked: str) -> Varied:
     return Varied(where, numbers, first, last, values)
 
 
+def moved_of(deck: Deck, asked: str) -> list[Varied]:
+    """The fields that move together, parted by semicolons: the first text of each, then the second, and so on."""
+    first, *others = [varied_of(deck, it.strip()) for it in asked.split(";")]
+    for it in others:
+        if len(it.texts) != len(first.texts):
+            raise VariedError(
+                f"--vary {asked}: fields that move together have as many values, and here {len(first.texts)} and "
+                f"{len(it.texts)}"
+            )
+    return [first, *(replace(it, tied=True) for it in others)]
+
+
 def combinations(lists: list[Varied]) -> list[tuple[str, ...]]:
-    """Each text of each list with each one of the others, the last list's fastest."""
-    found = list(itertools.islice(itertools.product(*(it.texts for it in lists)), MOST_CASES + 1))
+    """Each text of each list with each one of the others, the last list's fastest; tied lists move with the one before
+    them."""
+    groups: list[list[Varied]] = []
+    for it in lists:
+        if it.tied:
+            groups[-1].append(it)
+        else:
+            groups.append([it])
+    rows = itertools.product(*(zip(*(it.texts for it in group)) for group in groups))
+    found = [tuple(itertools.chain(*row)) for row in itertools.islice(rows, MOST_CASES + 1)]
     if len(found) > MOST_CASES:
         raise VariedError(f"these are more than {MOST_CASES:,} cases")
     return found
@@ -132,10 +153,23 @@ class Cases:
     values: list[tuple[str, ...]]
     instead: dict[str, str]
     since: str = ""  # what is said behind these
+    tied: tuple[bool, ...] = ()  # of each varied field, whether it moves together with the one before it
 
     def told(self, place: int) -> str:
         """The varied fields of a case with their texts, where there are some."""
         return ", ".join(f"{heading} = {text}" for heading, text in zip(self.headings, self.values[place]))
+
+    def parameters(self) -> dict[str, list[float | str]]:
+        """The values of each varied field that moves by itself, as numbers where they are numbers."""
+        free = [place for place, tied in enumerate(self.tied) if not tied]
+        return {self.headings[place]: [_value(texts[place]) for texts in self.values] for place in free}
+
+
+def _value(text: str) -> float | str:
+    try:
+        return float(number(text))
+    except ValueError:
+        return text
 
 
 def cases_of(path: str, vary: list[str], begin: float | None) -> Cases:
@@ -145,11 +179,12 @@ def cases_of(path: str, vary: list[str], begin: float | None) -> Cases:
         with open(path, encoding="latin-1", newline="") as file:
             return Cases([file.read()], [], [()], {})
     deck = Deck(path)
-    lists = [varied_of(deck, asked) for asked in vary]
+    lists = [it for asked in vary for it in moved_of(deck, asked)]
     instead = {} if begin is None else windowed(deck, begin)
     values = combinations(lists)
     texts = [text_with(deck, lists, it) for it in values]
-    return Cases(texts, [it.label for it in lists], values, instead, "" if begin is None else f" from {begin} s on")
+    since = "" if begin is None else f" from {begin} s on"
+    return Cases(texts, [it.label for it in lists], values, instead, since, tuple(it.tied for it in lists))
 
 
 # ---- peaks from a time on
