@@ -18,6 +18,7 @@ from datetime import datetime
 import numpy as np
 
 from wurdanei.record import Record, RecordError, read
+from wurdanei.write import Bar, Channel, Content, write
 
 from .recorder import Recorder, Wave, bay, current, grid, voltage
 
@@ -425,6 +426,66 @@ class ByHand(Folder):
             made.writestr("y.cfg", HAND_CFG)
         with self.assertRaisesRegex(RecordError, "it holds 2 records .deep/x.CFG, y.cfg., and one is read"):
             read(pack)
+
+    def test_as_pandas_and_xarray_know_it(self):
+        path = self.files(HAND_CFG, HAND_DAT)
+        record = read(path)
+        self.assertEqual((list(record), record.keys(), len(record)), (["VA", "IA", "TRIP"],) * 2 + (3,))
+        np.testing.assert_array_equal(record["IA"], record.channel("IA"))
+        self.assertEqual(record["TRIP"].tolist(), [0, 1, 1])
+        self.assertTrue("TRIP" in record and "NOPE" not in record)
+        with self.assertRaisesRegex(KeyError, "r.cfg: no analog channel 'NOPE'; it has VA, IA$"):
+            record["NOPE"]
+        self.assertEqual(repr(record), f"<Record {path}: 3 samples, 0 to 0.002 s; VA, IA, TRIP>")
+        page = record._repr_html_()
+        self.assertIn("<tr><td>IA</td><td>A</td><td>-2400</td><td>4000</td><td>25 us</td></tr>", page)
+        self.assertIn("<li>recorded as secondary values, answered as primary: IA</li>", page)
+        frame = record.frame()
+        self.assertEqual(frame.attrs["units"], {"VA": "kV", "IA": "A"})
+        self.assertEqual(frame.attrs["skews"], {"VA": 0.0, "IA": 25 * 1e-6})
+        data = record.to_xarray()
+        self.assertEqual((data["IA"].attrs["units"], data["IA"].attrs["skew"], data.sizes["time"]), ("A", 25 * 1e-6, 3))
+        self.assertEqual(float(data["IA"].sel(time=0.001)), 3200.0)
+        self.assertEqual(record.steps, {"VA": 0.5, "IA": 800.0})
+
+    def test_a_part_of_the_time(self):
+        record = read(self.files(HAND_CFG, HAND_DAT))
+        part = record.sel(0.001, 0.002)
+        self.assertEqual((part.times.tolist(), part["IA"].tolist()), ([0.001, 0.002], [3200.0, 4000.0]))
+        self.assertEqual((part["TRIP"].tolist(), part.skew("IA"), part.units), ([1, 1], 25 * 1e-6, ["kV", "A"]))
+        self.assertTrue(math.isnan(part["VA"][0]) and part["VA"][1] == -11.0)
+        self.assertEqual(record.sel().times.tolist(), record.times.tolist())
+        self.assertEqual((len(record.times), record.skew("IA")), (3, 25 * 1e-6))
+        with self.assertRaisesRegex(RecordError, "no sample from 5 to None s; it has 0 to 0.002 s"):
+            record.sel(5)
+
+    def test_another_rate(self):
+        """50 Hz at 20 kHz, skewed by 20 us, to 4 kHz and to 50 kHz: the formula, without the skew."""
+        at = np.arange(2000) / 20000
+        wave = lambda times: 1000 * np.sin(2 * np.pi * 50 * times)  # noqa: E731
+        content = Content(at, [Channel("V", "V", wave(at + 20e-6), skew=20e-6)], rates=[(20000, 2000)])
+        content.bars.append(Bar("B", (at >= 0.05).astype(int)))
+        write(os.path.join(self.folder, "w.cfg"), content, "BINARY32", 2013)
+        record = read(os.path.join(self.folder, "w.cfg"))
+        for rate in (4000.0, 50000.0):
+            found = record.resample(rate)
+            inner = (found.times > 0.01) & (found.times < 0.09)
+            self.assertLess(abs(found["V"] - wave(found.times))[inner].max(), 0.5)
+            self.assertEqual((found.skew("V"), found.rates[0][0]), (0.0, rate))
+            np.testing.assert_allclose(np.diff(found.times), 1 / rate)
+            self.assertEqual(found["B"].tolist(), (found.times >= 0.05 - 1e-9).astype(int).tolist())
+        with self.assertRaisesRegex(RecordError, "a rate is a number of samples a second above 0"):
+            record.resample(0)
+
+    def test_a_drawing(self):
+        record = read(self.files(HAND_CFG, HAND_DAT))
+        out = os.path.join(self.folder, "p.png")
+        drawing = record.plot("I*", path=out, begin=0.001)
+        with open(out, "rb") as file:
+            self.assertTrue(file.read(4) == drawing._repr_png_()[:4] == b"\x89PNG")
+        self.assertEqual([curve.name for pane in drawing.panes for curve in pane.curves], ["IA"])
+        with self.assertRaisesRegex(RecordError, "has no channel 'NOPE'"):
+            record.plot("NOPE")
 
     def test_many_names_alike(self):
         names = ["X"] * 9_000 + ["X.2", "Y"]

@@ -9,7 +9,7 @@ import numpy as np
 from .compare import Compared, Comparison, shift_line
 from .drawing import Curve, needs, thinned
 from .page import rounded, untagged
-from .picture import plain
+from .picture import DOTS, figure_of, plain
 
 MOST = 20_000  # points of a curve
 MEASURED, CASE, DIFFERENCE, MAY_BE = "#d55e00", "#0072b2", "#222222", "#009e73"
@@ -37,22 +37,9 @@ def _verdict(it: Compared) -> str:
 
 
 def _picture(found: Comparison, path: str) -> None:
-    try:
-        import matplotlib
-    except ImportError:
-        raise needs("a picture", "matplotlib", sys.executable) from None
-    matplotlib.use("Agg")
-    from matplotlib import pyplot
-
     count = len(found.pairs)
-    figure, panes = pyplot.subplots(
-        2 * count,
-        1,
-        sharex=True,
-        squeeze=False,
-        figsize=(9, 3.3 * count + 0.6),
-        gridspec_kw={"height_ratios": [3, 1.4] * count},
-    )
+    figure = figure_of(9, 3.3 * count + 0.6)
+    panes = figure.subplots(2 * count, 1, sharex=True, squeeze=False, gridspec_kw={"height_ratios": [3, 1.4] * count})
     for it, (upper,), (lower,) in zip(found.pairs, panes[::2], panes[1::2]):
         at = 1e3 * it.times
         upper.fill_between(at, *it.band, color=CASE, alpha=0.2, linewidth=0, label="band of the case")
@@ -69,8 +56,7 @@ def _picture(found: Comparison, path: str) -> None:
     panes[-1][0].set_xlabel("ms of the case")
     figure.align_ylabels()
     figure.tight_layout()
-    figure.savefig(path, dpi=80)
-    pyplot.close(figure)
+    figure.savefig(path, dpi=DOTS)
 
 
 def _page(found: Comparison, path: str) -> None:

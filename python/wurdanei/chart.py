@@ -3,14 +3,13 @@
 from __future__ import annotations
 
 import os
-import sys
 from collections.abc import Mapping, Sequence
 
 import numpy as np
 
 from .configuration import RecordError
-from .drawing import Curve, Drawing, Pane, needs
-from .picture import DOTS, draw, plain
+from .drawing import Curve, Drawing, Pane
+from .picture import DOTS, draw, figure_of, plain
 
 MOST = 12  # columns that are drawn
 Column = Sequence[float | str] | Sequence[float] | np.ndarray
@@ -48,18 +47,12 @@ def draw_table(parameters: Mapping[str, Column], measured: Mapping[str, Column],
 
 def _maps(varied: dict[str, np.ndarray], shown: dict[str, np.ndarray], path: str) -> None:
     """A map of each column over two parameters; of rows of one place the mean."""
-    try:
-        import matplotlib
-    except ImportError:
-        raise needs("a picture", "matplotlib", sys.executable) from None
-    matplotlib.use("Agg")
-    from matplotlib import pyplot
-
     (across, x), (up, y) = ((name, values.astype(float)) for name, values in varied.items())
     xs, place_x = np.unique(x, return_inverse=True)
     ys, place_y = np.unique(y, return_inverse=True)
     whole = len(xs) * len(ys) <= 4 * len(x)  # else points that lie anywhere
-    figure, panes = pyplot.subplots(len(shown), 1, squeeze=False, figsize=(7, 4.2 * len(shown)))
+    figure = figure_of(7, 4.2 * len(shown))
+    panes = figure.subplots(len(shown), 1, squeeze=False)
     for (name, values), (pane,) in zip(shown.items(), panes):
         if whole:
             known = np.isfinite(values)
@@ -75,4 +68,3 @@ def _maps(varied: dict[str, np.ndarray], shown: dict[str, np.ndarray], path: str
         pane.set_ylabel(plain(up))
     figure.tight_layout()
     figure.savefig(path, dpi=DOTS)
-    pyplot.close(figure)

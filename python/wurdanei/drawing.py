@@ -2,6 +2,7 @@
 
 from __future__ import annotations
 
+import io
 import re
 import textwrap
 from dataclasses import dataclass, field
@@ -67,6 +68,14 @@ class Drawing:
     bars: list[Bar] = field(default_factory=list)
     x_label: str = ""  # of all panes and bars, where they have one x
     notes: list[str] = field(default_factory=list)  # what was done to what is drawn
+
+    def _repr_png_(self) -> bytes:
+        """The picture, for a notebook."""
+        from .picture import draw
+
+        made = io.BytesIO()
+        draw(self, made)
+        return made.getvalue()
 
     @property
     def joint(self) -> bool:

@@ -5,9 +5,13 @@ from __future__ import annotations
 import os
 import sys
 import warnings
+from typing import TYPE_CHECKING, BinaryIO
 
 from .configuration import RecordError
 from .drawing import Drawing, Pane, folded, needs, thinned
+
+if TYPE_CHECKING:
+    from matplotlib.figure import Figure
 
 LINES = ["-", "--", "-.", ":"]
 POINTS = 12_000  # of a curve: several for each column of a picture's dots
@@ -16,25 +20,20 @@ ROWS = 12  # of a legend, then a column more
 WIDTH = 110  # characters of a line above the panes
 
 
-def draw(drawing: Drawing, path: str) -> None:
-    """Writes the picture; its ending says its form, png where it has none."""
+def figure_of(width: float, height: float) -> Figure:
+    """An empty figure of so many inches, of no window: how a session shows its own stays as it is."""
     try:
-        import matplotlib
+        from matplotlib.figure import Figure
     except ImportError:
         raise needs("a picture", "matplotlib", sys.executable) from None
-    matplotlib.use("Agg")
-    warnings.simplefilter("ignore", UserWarning)  # of the look alone, as of a legend that is higher than its pane
-    from matplotlib import pyplot
+    return Figure(figsize=(width, height))
 
+
+def draw(drawing: Drawing, path: str | BinaryIO) -> None:
+    """Writes the picture; its ending says its form, png where it has none."""
     heights, notes = drawing.heights or [1.0], folded(drawing.notes, WIDTH)
-    figure, axes = pyplot.subplots(
-        len(heights),
-        1,
-        sharex=drawing.joint,
-        squeeze=False,
-        figsize=(9, sum(heights) + 0.6 + 0.18 * len(notes)),
-        gridspec_kw={"height_ratios": heights},
-    )
+    figure = figure_of(9, sum(heights) + 0.6 + 0.18 * len(notes))
+    axes = figure.subplots(len(heights), 1, sharex=drawing.joint, squeeze=False, gridspec_kw={"height_ratios": heights})
     places = [row[0] for row in axes]
     for axis, pane in zip(places, drawing.panes):
         draw_pane(axis, pane)
@@ -44,13 +43,14 @@ def draw(drawing: Drawing, path: str) -> None:
         places[-1].set_xlabel(plain(drawing.x_label))
     if notes:
         places[0].set_title("\n".join(plain(note) for note in notes), loc="left", fontsize="small")
-    figure.tight_layout()
-    try:
-        figure.savefig(path, dpi=DOTS, format=os.path.splitext(path)[1][1:] or "png")
-    except ValueError as fault:
-        raise RecordError(f"{path}: {fault}") from None
-    finally:
-        pyplot.close(figure)
+    form = os.path.splitext(path)[1][1:] if isinstance(path, str) else ""
+    with warnings.catch_warnings():
+        warnings.simplefilter("ignore", UserWarning)  # of the look alone, as of a legend that is higher than its pane
+        figure.tight_layout()
+        try:
+            figure.savefig(path, dpi=DOTS, format=form or "png")
+        except ValueError as fault:
+            raise RecordError(f"{path}: {fault}") from None
 
 
 def draw_pane(axis, pane: Pane) -> None:

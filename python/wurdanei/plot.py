@@ -90,10 +90,7 @@ def main(words: list[str]) -> int:
         drawing = summary_drawing(first, its.cfg)
     else:
         drawing = record_drawing(first, dat, its)
-    if out.lower().endswith((".html", ".htm")):
-        page.write(drawing, out, its.all)
-    else:
-        picture.draw(drawing, out)
+    write(drawing, out, its.all)
     print(f"drawn: {out}")
     return 0
 
@@ -157,6 +154,34 @@ def record_drawing(path: str, dat: str | None, its: argparse.Namespace) -> Drawi
     return drawing
 
 
+def drawn(
+    record: Record,
+    names: tuple[str, ...],
+    path: str | os.PathLike[str] | None,
+    begin: float | None,
+    end: float | None,
+) -> Drawing:
+    """The drawing of channels of a record (all without names) between two times in s; written where a path is given."""
+    its = argparse.Namespace(only=list(names) or None, begin=begin, end=end)
+    chosen(names, [*record.names, *record.state_names], record.path or "the record")  # each word has to mean one
+    signals = [within(signal, its) for signal in signals_of(record, 0.0, "", its)]
+    if not any(len(signal.times) for signal in signals):
+        raise RecordError(f"{record.path or 'the record'} has no sample in the time that is asked for")
+    drawing = times_drawing(signals, told=False)
+    drawing.title, drawing.notes = os.path.basename(record.path) or "record", record.told + said_of(signals)
+    if path is not None:
+        write(drawing, os.fspath(path))
+    return drawing
+
+
+def write(drawing: Drawing, path: str, whole: bool = False) -> None:
+    """Writes a page where the name says so, of which `whole` has all samples, else a picture."""
+    if path.lower().endswith((".html", ".htm")):
+        page.write(drawing, path, whole)
+    else:
+        picture.draw(drawing, path)
+
+
 def stem(path: str) -> str:
     """The name of a file without folder and ending."""
     return os.path.splitext(os.path.basename(path))[0]
@@ -212,12 +237,12 @@ def one_of(name: str, signals: list[Signal], path: str) -> Signal:
     return next(signal for signal in signals if signal.name == found[0] and not signal.state)
 
 
-def times_drawing(signals: list[Signal]) -> Drawing:
-    """Curves and bars over the time; the extremes of each channel are printed."""
+def times_drawing(signals: list[Signal], told: bool = True) -> Drawing:
+    """Curves and bars over the time; the extremes of each channel are printed where they are to be told."""
     begin = min((signal.times[0] for signal in signals if len(signal.times)), default=0.0)
     end = max((signal.times[-1] for signal in signals if len(signal.times)), default=0.0)
     scale, unit = (1.0, "s") if end - begin >= LONG else (1e3, "ms")
-    told, curves, bars = [], [], []
+    analog, curves, bars = [], [], []
     for signal in signals:
         curve = Curve(signal.name, signal.times * scale, signal.values, signal.unit)
         if signal.state or is_two_valued(signal.values, signal.unit):
@@ -225,9 +250,9 @@ def times_drawing(signals: list[Signal]) -> Drawing:
         else:
             curves.append(curve)
         if not signal.state:
-            told.append(curve)
+            analog.append(curve)
     panes = panes_of(curves)  # in the units that are drawn and told
-    for curve in told:
+    for curve in analog if told else []:
         print(extremes(curve, unit))
     return Drawing("", panes, bars, unit)
 

@@ -7,6 +7,7 @@ which this package stands, else the ones of PATH.
 from __future__ import annotations
 
 import contextlib
+import ctypes
 import functools
 import os
 import pathlib
@@ -20,7 +21,11 @@ from dataclasses import dataclass
 
 VARIABLES = {"emtp": "EMTP", "emtp_show": "EMTP_SHOW", "emtp_judge": "EMTP_JUDGE"}
 ENDING = (signal.SIGTERM, signal.SIGHUP)  # what a scheduler or a closed terminal sends
+PR_SET_PDEATHSIG = 1  # of Linux: the signal that a process gets where its parent ends
 GUARD = "setpriv"  # of util-linux: a program behind it ends with the process that called it
+
+
+_following: set[int] = set()  # processes that SIGTERM ends with their parent, so that they end what they run
 
 
 class ProgramError(Exception):
@@ -132,7 +137,7 @@ def run(
     with ended_in_words():
         try:
             done = subprocess.run(
-                [*_guarded(), *called],
+                [*(() if os.getpid() in _following else _guarded()), *called],
                 cwd=folder,
                 stdin=subprocess.DEVNULL,
                 capture_output=True,
@@ -150,6 +155,15 @@ def run(
     if done.returncode < 0:
         raise ProgramError(f"{called[0]} was ended by signal {-done.returncode}")
     return Ended(done.returncode, done.stdout.decode("latin-1"), told)
+
+
+def follow() -> None:
+    """Ends this process, a worker of a pool, with the one that made it, and what it runs with it."""
+    for it in ENDING:
+        signal.signal(it, signal.SIG_DFL)
+    with contextlib.suppress(AttributeError, OSError):
+        ctypes.CDLL(None).prctl(PR_SET_PDEATHSIG, int(signal.SIGTERM))
+        _following.add(os.getpid())
 
 
 @functools.lru_cache

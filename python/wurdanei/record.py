@@ -13,6 +13,8 @@ from __future__ import annotations
 
 import codecs
 import contextlib
+import copy
+import html
 import math
 import mmap
 import os
@@ -22,22 +24,27 @@ import stat
 import tempfile
 import zipfile
 import zlib
-from dataclasses import dataclass, field
+from dataclasses import dataclass, field, replace
 from datetime import datetime
 from typing import IO, TYPE_CHECKING, BinaryIO, Iterable, Iterator, cast
 
 import numpy as np
 
 from .configuration import Analog, Clock, Configuration, RecordError, State, read_configuration, tell
-from .samples import Samples, Whole, line_of, read_samples
+from .resample import at_rate
+from .samples import Samples, Values, Whole, line_of, read_samples
 
 if TYPE_CHECKING:
     import pandas
+    import xarray
+
+    from .drawing import Drawing
 
 __all__ = ["Record", "RecordError", "UnknownChannel", "read"]
 
 LONGEST_HEAD = 200  # bytes of the line that begins a section of a cff
 ZIP = b"PK\x03\x04"  # with which a zip begins
+MOST_RESAMPLED = 50_000_000  # samples of a record at another rate
 LONGEST_TEXT = 1 << 20  # bytes of a header or an information file that are kept
 MOST_UNPACKED = 1 << 32  # bytes of a record in a zip
 BLOCK = 1 << 16  # samples whose times are made or compared at once, so that little memory is taken
@@ -60,7 +67,8 @@ class Record:
     station: str
     device: str
     revision: int  # 1991, 1999 or 2013
-    form: str  # "ASCII", "BINARY", "BINARY32" or "FLOAT32"; "INT64" with all digits of a run
+    form: str  # "ASCII", "BINARY", "BINARY32" or "FLOAT32"; "INT64" with all digits of a run, "FLOAT64"
+    # of other samples than the file has
     times: np.ndarray = field(
         repr=False
     )  # shape (samples,), float64, s from the first sample's instant; skew not applied
@@ -126,15 +134,15 @@ class Record:
         return int(np.isnan(self._samples.raw(self._place(name))).sum())
 
     def multiplier(self, name: str) -> float:
-        """What a raw value of 1 is in primary values, in the unit of the channel; nan in the form FLOAT32."""
+        """What a raw value of 1 is in primary values, in the unit of the channel; nan in the forms of floating numbers."""
         own = self._configuration.analogs[self._place(name)]
         ratio = own.primary / own.secondary if own.scaling == "S" else 1.0
-        return math.nan if self.form == "FLOAT32" else abs(own.multiplier) * ratio
+        return math.nan if self.form in ("FLOAT32", "FLOAT64") else abs(own.multiplier) * ratio
 
     @property
     def steps(self) -> dict[str, float]:
-        """Of each analog channel, in its unit, the distance between two values that can be told apart; nan in the form
-        FLOAT32, where it is 6e-8 of the value."""
+        """Of each analog channel, in its unit, the distance between two values that can be told apart; nan in the forms
+        of floating numbers, of which FLOAT32 keeps 6e-8 of the value."""
         return {name: self.multiplier(name) for name in self.names}
 
     def ratio(self, name: str) -> tuple[float, float]:
@@ -146,16 +154,139 @@ class Record:
         """The channels that are recorded as secondary values (`channel` answers primary ones)."""
         return [name for name, own in zip(self.names, self._configuration.analogs) if own.scaling == "S"]
 
+    def __getitem__(self, name: str) -> np.ndarray:
+        """The values of an analog channel, or the states of a status channel: shape (samples,)."""
+        return self.states(name) if name in self.state_names else self.channel(name)
+
+    def __contains__(self, name: object) -> bool:
+        return name in self.names or name in self.state_names
+
+    def __iter__(self) -> Iterator[str]:
+        """The names of all channels, the analog ones first."""
+        return iter([*self.names, *self.state_names])
+
+    def keys(self) -> list[str]:
+        """The names of all channels, the analog ones first."""
+        return [*self.names, *self.state_names]
+
+    def __len__(self) -> int:
+        """How many channels there are; `times` has as many values as there are samples."""
+        return len(self.names) + len(self.state_names)
+
+    def __repr__(self) -> str:
+        shown = ", ".join(self.keys()[:6]) + (f" and {len(self) - 6} more" if len(self) > 6 else "")
+        span = f"{self.times[0]:g} to {self.times[-1]:g} s" if len(self.times) else "no time"
+        return f"<Record {self.path or 'of a run'}: {len(self.times):,} samples, {span}; {shown or 'no channel'}>"
+
+    def _repr_html_(self) -> str:
+        """The channels as a table, for a notebook: unit, extremes, skew."""
+        rows = []
+        for name, unit in zip(self.names, self.units):
+            values = self.channel(name)
+            known = values[np.isfinite(values)]
+            ends = [f"{it:.6g}" for it in (known.min(), known.max())] if len(known) else ["", ""]
+            rows.append([name, unit, *ends, f"{1e6 * self.skew(name):g} us" if self.skew(name) else ""])
+        rows += [[name, "state", *(str(int(it)) for it in self._ends(name)), ""] for name in self.state_names]
+        lines = "".join("<tr>" + "".join(f"<td>{html.escape(it)}</td>" for it in row) + "</tr>" for row in rows)
+        head = "".join(f"<th>{it}</th>" for it in ("channel", "unit", "least", "greatest", "skew"))
+        told = "".join(f"<li>{html.escape(it)}</li>" for it in self.told)
+        return f"<p>{html.escape(repr(self).strip('<>'))}</p><table><tr>{head}</tr>{lines}</table><ul>{told}</ul>"
+
+    def _ends(self, name: str) -> tuple[int, int]:
+        states = self.states(name)
+        return (int(states.min()), int(states.max())) if len(states) else (0, 0)
+
+    def sel(self, begin: float | None = None, end: float | None = None) -> Record:
+        """The samples from one time to another, in s of the record, both among them; their times stay as they are."""
+        first = 0 if begin is None else int(np.searchsorted(self.times, begin - _slack(begin)))
+        last = len(self.times) if end is None else int(np.searchsorted(self.times, end + _slack(end), "right"))
+        if first >= last:
+            raise RecordError(
+                f"{self._where}: no sample from {begin} to {end} s; it has {self.times[0]:g} to {self.times[-1]:g} s"
+            )
+        values = {name: self.channel(name)[first:last] for name in self.names}
+        states = {name: self.states(name)[first:last] for name in self.state_names}
+        return self._made_of(self.times[first:last], values, states, [])
+
+    def resample(self, hz: float) -> Record:
+        """The channels at another rate, their skew taken away: behind a low-pass where it is lower (docs/record.md has
+        its bounds), on straight lines where it is higher; states as they stand at each time."""
+        if not 0 < hz < math.inf:
+            raise RecordError(f"a rate is a number of samples a second above 0, and here {hz}")
+        span = float(self.times[-1] - self.times[0])
+        if span * hz > MOST_RESAMPLED:
+            raise RecordError(f"{span:g} s at {hz:g} Hz are more than {MOST_RESAMPLED:,} samples")
+        times = self.times[0] + np.arange(int(span * hz * (1 + 1e-12)) + 1) / hz
+        values = {name: at_rate(self.times_of(name), self.channel(name), times, hz) for name in self.names}
+        place = np.clip(np.searchsorted(self.times, times + _slack(span), "right") - 1, 0, None)
+        states = {name: self.states(name)[place] for name in self.state_names}
+        return self._made_of(times, values, states, [(float(hz), len(times))], skewed=False)
+
+    def _made_of(
+        self,
+        times: np.ndarray,
+        values: dict[str, np.ndarray],
+        states: dict[str, np.ndarray],
+        rates: list[tuple[float, int]],
+        skewed: bool = True,
+    ) -> Record:
+        """A record of other samples of the same channels: primary values, in no file."""
+        analogs = [
+            replace(own, multiplier=1.0, offset=0.0, scaling="P", skew=own.skew if skewed else 0.0)
+            for own in self._configuration.analogs
+        ]
+        made = copy.copy(self)
+        made.path, made.form, made.times, made.rates, made.told = "", "FLOAT64", times, rates, list(self.told)
+        made._configuration = replace(self._configuration, path="the record", analogs=analogs)
+        made._samples = Values(list(values.values()), list(states.values()), len(times))
+        return made
+
     def frame(self) -> pandas.DataFrame:
-        """All channels over the times in s; it needs pandas."""
+        """All channels over the times in s; it needs pandas.
+
+        Its `attrs` have `units` and `skews` (s) by the names of the channels. The index is the time of the samples, to
+        which the skew of a channel isn't added: `resample` takes skews away.
+        """
         try:
             import pandas
         except ImportError:
             raise RecordError("a frame needs pandas (Debian: python3-pandas)") from None
-        columns = {name: self.channel(name) for name in self.names} | {
-            name: self.states(name) for name in self.state_names
+        made = pandas.DataFrame({name: self[name] for name in self.keys()}, index=pandas.Index(self.times, name="s"))
+        made.attrs |= {
+            "units": dict(zip(self.names, self.units)),
+            "skews": {name: self.skew(name) for name in self.names},
+            "told": list(self.told),
         }
-        return pandas.DataFrame(columns, index=pandas.Index(self.times, name="s"))
+        return made
+
+    def to_xarray(self) -> xarray.Dataset:
+        """All channels over the coordinate `time` in s; it needs xarray. Each variable has its `units` and `skew` (s) as
+        attributes."""
+        try:
+            import xarray
+        except ImportError:
+            raise RecordError("a Dataset needs xarray (Debian: python3-xarray)") from None
+        variables: dict[str, tuple[str, np.ndarray, dict[str, object]]] = {}
+        for name, unit, phase in zip(self.names, self.units, self.phases):
+            variables[name] = ("time", self.channel(name), {"units": unit, "skew": self.skew(name), "phase": phase})
+        for name in self.state_names:
+            variables[name] = ("time", self.states(name), {"units": "1"})
+        own = {"station": self.station, "device": self.device, "frequency": self.frequency, "trigger": self.trigger}
+        coords = {"time": ("time", self.times, {"units": "s"})}
+        return xarray.Dataset(variables, coords, own | {"start": str(self.start or ""), "told": list(self.told)})
+
+    def plot(
+        self,
+        *names: str,
+        path: str | os.PathLike[str] | None = None,
+        begin: float | None = None,
+        end: float | None = None,
+    ) -> Drawing:
+        """Draws channels (all without names) between two times in s: into a picture, or a page where the path ends with
+        .html; answers the drawing, which a notebook shows. It needs matplotlib, or plotly for a page."""
+        from . import plot
+
+        return plot.drawn(self, names, path, begin, end)
 
     @property
     def _where(self) -> str:
@@ -446,6 +577,11 @@ def made(path: str, own: Configuration, samples: Samples, texts: tuple[str, str]
     if record.secondary():
         tell(told, f"recorded as secondary values, answered as primary: {listed(record.secondary())}")
     return record
+
+
+def _slack(time: float) -> float:
+    """By what a time that was typed may miss that of a sample."""
+    return 1e-9 * max(1e-3, abs(time))
 
 
 def computed(names: list[str], units: list[str], states: list[str], values: np.ndarray, step: float) -> Record:

@@ -338,6 +338,26 @@ class Whole(Samples):
         return f"sample {int(sample) + 1}"
 
 
+class Values(Samples):
+    """Samples that were made of others: values of each analog channel, nan where missing, and states of each status
+    channel, shape (samples,)."""
+
+    def __init__(self, values: list[np.ndarray], states: list[np.ndarray], count: int) -> None:
+        self.values, self.bars, self.count = values, states, count
+
+    def stamps(self) -> Iterator[np.ndarray]:
+        yield np.full(self.count, np.nan)
+
+    def raw(self, place: int) -> np.ndarray:
+        return self.values[place].copy()
+
+    def state(self, place: int) -> np.ndarray:
+        return self.bars[place].copy()
+
+    def where(self, sample: int) -> str:
+        return f"sample {int(sample) + 1}"
+
+
 def whole_values(text: str, channels: int, whose: str) -> np.ndarray:
     """The whole numbers of lines with so many each, between blanks: shape (lines, channels), int64."""
     lines = text.count("\n")

@@ -202,10 +202,14 @@ _TASK: list[tuple[Build, Measure]] = []  # of a process of the pool
 
 def _begin(build: Build, measure: Measure) -> None:
     _TASK[:] = [(build, measure)]
+    program.follow()
 
 
 def _part_here(points: list[Point]) -> list[tuple[dict[str, Value], str, str]]:
-    return _part(*_TASK[0], points)
+    try:
+        return _part(*_TASK[0], points)
+    except SystemExit:  # of a signal, which a pool would take for an answer
+        os._exit(1)
 
 
 # ---- all rows
@@ -230,7 +234,8 @@ def run(
         is measured; all channels without it.
     jobs: so many processes at a time; as many as there are processors without it.
     executor: any executor of `concurrent.futures` in place of the pool of processes. Its workers need this package and
-        the program; a part whose worker is lost is given to it again, three times.
+        the program. A part whose worker is lost is given to it again, a row by itself; what is lost three times has
+        that as its error.
     resume: a file in which each row is noted once it is done; where it is there already, its rows aren't run again.
     progress: a function of (rows done, all rows, seconds left), or whether standard error tells them; without it, it
         does so where it is a terminal.
@@ -246,7 +251,7 @@ def run(
     done = notes.read() if notes else {}
     left = [place for place in range(len(its)) if place not in done]
     tell = _Teller(len(left), progress)
-    with notes.opened() if notes else _Nothing() as note:
+    with program.ended_in_words(), notes.opened() if notes else _Nothing() as note:
         for places, found in _answers(build, measure, its, left, jobs or len(os.sched_getaffinity(0)), executor):
             for place, row in zip(places, found):
                 done[place] = row
@@ -271,39 +276,63 @@ def _answers(
     """The rows that are left, part by part as they are done."""
     size = max(1, min(LARGEST, len(left) // (PARTS * jobs)))
     parts = [left[at : at + size] for at in range(0, len(left), size)]
-    tries = 0
+    done, tries = False, 0
     while parts:
-        lost: list[list[int]] = []
-        fault: BaseException | None = None
-        own = None
-        if executor is None:
-            own = concurrent.futures.ProcessPoolExecutor(
-                min(jobs, len(parts)), multiprocessing.get_context("fork"), _begin, (build, measure)
-            )
-        try:
-            futures: dict[concurrent.futures.Future[Rows], list[int]] = {}
-            for part in parts:
-                values = [points[place] for place in part]
-                if own is not None:
-                    futures[own.submit(_part_here, values)] = part
+        tries += 1
+        # at last each row by itself, so that one that ends its process is known and takes no other with it
+        groups = [[part] for part in parts] if executor is None and tries == MOST_TRIES else [parts]
+        lost: list[tuple[list[int], str]] = []
+        for group in groups:
+            for part, found in _tried(build, measure, points, group, jobs, executor):
+                if isinstance(found, str):
+                    lost.append((part, found))
                 else:
-                    assert executor is not None
-                    futures[executor.submit(_part, build, measure, values)] = part
-            for future in concurrent.futures.as_completed(futures):
-                try:
-                    found = future.result()
-                except (Exception, concurrent.futures.CancelledError) as why:  # the worker was lost, or can't take it
-                    lost.append(futures[future])
-                    fault = why
-                else:
-                    yield futures[future], found
-        finally:
+                    done = True
+                    yield part, found
+        parts = [[place] for part, _ in lost for place in part]
+        if lost and tries == MOST_TRIES:
+            if not done:
+                raise SweepError(f"no row could be run: {lost[0][1]}")
+            for part, words in lost:
+                yield part, [({}, "", f"its process was lost {MOST_TRIES} times: {words}")] * len(part)
+            return
+
+
+def _tried(
+    build: Build,
+    measure: Measure,
+    points: list[Point],
+    parts: list[list[int]],
+    jobs: int,
+    executor: concurrent.futures.Executor | None,
+) -> Iterable[tuple[list[int], Rows | str]]:
+    """The rows of each part as it is done, or why its worker was lost."""
+    values = [[points[place] for place in part] for part in parts]
+    own = None
+    if executor is None:
+        context = multiprocessing.get_context("fork")
+        own = concurrent.futures.ProcessPoolExecutor(min(jobs, len(parts)), context, _begin, (build, measure))
+    try:
+        futures: dict[concurrent.futures.Future[Rows], list[int]] = {}
+        for part, its in zip(parts, values):
             if own is not None:
-                own.shutdown(wait=True, cancel_futures=True)
-        tries = tries + 1 if len(lost) == len(parts) else 1
-        if lost and tries >= MOST_TRIES:
-            raise SweepError(f"{sum(map(len, lost))} rows are lost again and again: {type(fault).__name__}: {fault}")
-        parts = [[place] for part in lost for place in part]  # so that one that ends its process loses no other
+                futures[own.submit(_part_here, its)] = part
+            elif executor is not None:
+                futures[executor.submit(_part, build, measure, its)] = part
+        for future in concurrent.futures.as_completed(futures):
+            try:
+                found: Rows | str = future.result()
+            except (Exception, concurrent.futures.CancelledError) as why:
+                found = f"{type(why).__name__}: {why}"
+            yield futures[future], found
+    except BaseException:
+        if own is not None:
+            for worker in multiprocessing.active_children():
+                worker.terminate()
+        raise
+    finally:
+        if own is not None:
+            own.shutdown(wait=True, cancel_futures=True)
 
 
 class _Teller:
