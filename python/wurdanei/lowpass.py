@@ -6,6 +6,7 @@ G. F. Franklin, J. D. Powell and M. L. Workman, Digital Control of Dynamic Syste
 """
 
 import numpy as np
+from scipy import signal
 
 LEAST_SAMPLES, MOST_SAMPLES = 5, 1_000_000  # a period of the corner frequency
 
@@ -26,18 +27,7 @@ def lowpass(values: np.ndarray, step: float, corner: float) -> np.ndarray:
     periods = 1 / (corner * step)
     if periods > MOST_SAMPLES:
         raise ValueError(f"a filter of {corner:g} Hz is too slow for samples that are {1e6 * step:.4g} us apart")
-    tail = int(np.ceil(9 * periods))  # by then its answer to an impulse is below 1e-17 of the first part
-    size = 1 << int(np.ceil(np.log2(len(values) + tail)))
-    ahead = np.exp(2j * np.pi * np.arange(size // 2 + 1) / size)  # z, one sample
-    answer = _mode(ahead, step, corner, 1) + _mode(ahead, step, corner, -1)
-    return values[0] + np.fft.irfft(np.fft.rfft(values - values[0], size) * answer, size)[: len(values)]
-
-
-def _mode(ahead: np.ndarray, step: float, corner: float, sign: int) -> np.ndarray:
-    """What one pole p of the filter makes of a curve that is straight between its samples: w' = p w + c u."""
-    pole = 2 * np.pi * corner * (-1 + 1j * sign) / np.sqrt(2)
-    weight = -1j * sign * 2 * np.pi * corner / np.sqrt(2)
-    kept = np.exp(pole * step)
-    level = (kept - 1) / pole
-    rise = (kept - 1 - pole * step) / (pole * pole * step)
-    return weight * (level + rise * (ahead - 1)) / (ahead - kept)
+    # the time is counted in samples, so that no number is far from 1
+    continuous = signal.butter(2, 2 * np.pi * corner * step, analog=True, output="ba")
+    numerator, denominator, _ = signal.cont2discrete(continuous, 1.0, method="foh")
+    return values[0] + signal.lfilter(numerator.ravel(), denominator, values - values[0])

@@ -10,6 +10,7 @@ from __future__ import annotations
 from dataclasses import dataclass
 
 import numpy as np
+from scipy import signal
 
 from .configuration import RecordError
 from .resample import even_spacing
@@ -57,10 +58,9 @@ def spectrum_of(times: np.ndarray, values: np.ndarray, name: str) -> Spectrum:
 def peaks_of(spectrum: Spectrum) -> list[tuple[float, float]]:
     """The peaks above 0 Hz, the greatest first: frequency in Hz and crest."""
     lines = spectrum.crests
-    inner = np.flatnonzero((lines[1:-1] > lines[:-2]) & (lines[1:-1] >= lines[2:])) + 1
-    inner = inner[(inner > 1) & (lines[inner] >= SMALL * lines.max())]
+    inner, _ = signal.find_peaks(lines, height=SMALL * lines.max())
     found = []
-    for line in inner.tolist():
+    for line in inner[inner > 1].tolist():
         side = 1 if lines[line + 1] >= lines[line - 1] else -1
         ratio = lines[line + side] / lines[line]
         away = (2 * ratio - 1) / (1 + ratio)
