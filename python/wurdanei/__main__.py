@@ -3,6 +3,7 @@
 from __future__ import annotations
 
 import importlib
+import io
 import os
 import sys
 
@@ -34,7 +35,7 @@ def main(words: list[str]) -> int:
     from .configuration import RecordError
 
     try:
-        status = module.main(words[1:])
+        status = int(module.main(words[1:]))
         if sys.stdout:
             sys.stdout.flush()
         return status
@@ -57,7 +58,7 @@ def main(words: list[str]) -> int:
 def entry() -> None:
     """The package as a program; names of another alphabet than the terminal's are printed all the same."""
     for stream in (sys.stdout, sys.stderr):
-        if stream:
+        if isinstance(stream, io.TextIOWrapper):
             stream.reconfigure(errors="backslashreplace")
     sys.exit(main(sys.argv[1:]))
 

@@ -3,6 +3,7 @@
 from __future__ import annotations
 
 import sys
+from typing import Any
 
 import numpy as np
 
@@ -100,8 +101,8 @@ def _points(times: np.ndarray, values: np.ndarray) -> dict[str, list[float | Non
 
 
 def _curve(
-    figure, row: int, times: np.ndarray, values: np.ndarray, name: str, colour: str, unit: str, named: bool = True
-):
+    figure: Any, row: int, times: np.ndarray, values: np.ndarray, name: str, colour: str, unit: str, named: bool = True
+) -> None:
     """Puts a curve into a pane of a page."""
     figure.add_scatter(
         **_points(times, values),
@@ -115,7 +116,7 @@ def _curve(
     )
 
 
-def _band(figure, row: int, times: np.ndarray, low: np.ndarray, high: np.ndarray, colour: str) -> None:
+def _band(figure: Any, row: int, times: np.ndarray, low: np.ndarray, high: np.ndarray, colour: str) -> None:
     """Fills what lies between two curves."""
     for values, fill in ((low, None), (high, "tonexty")):
         figure.add_scatter(

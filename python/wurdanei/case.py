@@ -47,7 +47,7 @@ from .answers import (
 )
 from .compound import Compound, after
 from .control import Control
-from .draft import STANDING, Call, CaseError, Draft, Switch, Written, joined
+from .draft import STANDING, Branch, Call, CaseError, Draft, Switch, Written, joined
 from .fields import FieldError
 from .record import Record, computed, distinct, read
 from .samples import whole_values
@@ -170,7 +170,8 @@ class Case(Compound):
         """The names of the nodes, in the order in which they first appear on the cards of branches and then of
         switches."""
         contents = self._draft.contents
-        return list(dict.fromkeys(name for it in [*contents.branches, *contents.switches] for name in it.ends if name))
+        ends = [it.ends for it in contents.branches] + [it.ends for it in contents.switches]
+        return list(dict.fromkeys(name for both in ends for name in both if name))
 
     @property
     def names(self) -> list[str]:
@@ -186,7 +187,8 @@ class Case(Compound):
         """The names as the record has them."""
         contents = self._draft.contents
         found = [f"V {name}" for asked in contents.outputs for name in asked.names or self.nodes]
-        for items in (contents.branches, contents.switches):
+        asking: tuple[typing.Sequence[Branch | Switch], ...] = (contents.branches, contents.switches)
+        for items in asking:
             for it in items:
                 found += [f"{letter} {joined(it.ends)}" for bit, letter in ((1, "I"), (2, "U")) if it.asked & bit]
         return found + [f"T {name}" for asked in contents.control_outputs for name in asked.names]
@@ -239,7 +241,7 @@ class Case(Compound):
                 f"the record would have {channels * samples:,} values, {channels} channels of {samples:,} samples, "
                 f"and has at most {MOST_VALUES:,}: raise every, or ask for less"
             )
-        history = sum(it.history for it in [*contents.branches, *contents.extras])
+        history = sum(it.history for it in contents.branches) + sum(it.history for it in contents.extras)
         if history > MOST_HISTORY:
             raise CaseError(
                 f"lines and devices would keep {history:,} values of the past, and a case keeps at most "
@@ -263,12 +265,14 @@ class Case(Compound):
         found: list[Written | str] = [f"C {line}".rstrip() for line in self._remark]
         found.append("BEGIN NEW DATA CASE")
         found += self._head
-        sections = [
+        sections: list[list[Written | str]] = [
             [*self._branch_cards()],
-            *([it.card for it in part] for part in (contents.switches, contents.sources, contents.outputs)),
+            [it.card for it in contents.switches],
+            [it.card for it in contents.sources],
+            [it.card for it in contents.outputs],
         ]
         if contents.control:
-            control = [
+            control: list[list[Written | str]] = [
                 [card for it in contents.blocks for card in it.cards],
                 [it.card for it in contents.control_sources],
                 [card for it in contents.extras for card in it.cards],
@@ -557,11 +561,13 @@ def _card_at(lines: list[Written | str], number: int) -> tuple[str, Call | None]
 def _ruled(lines: list[Written | str]) -> list[Written | str]:
     """The lines with the names of the fields above each run of cards of one kind, as comments."""
     found: list[Written | str] = []
-    before = None
+    before: str | None = None
     for line in lines:
-        kind = line.kind if isinstance(line, Written) else None
-        if kind is not None and kind.name != before and not line.text.endswith("9999"):
-            found.append("C " + kind.legend()[2:])
-        before = kind.name if kind else before if isinstance(line, str) and line.startswith("$") else None
+        if isinstance(line, Written):
+            if line.kind.name != before and not line.text.endswith("9999"):
+                found.append("C " + line.kind.legend()[2:])
+            before = line.kind.name
+        elif not line.startswith("$"):
+            before = None
         found.append(line)
     return found

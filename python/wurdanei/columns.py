@@ -5,6 +5,7 @@ this one. Columns count from 1, and the last one belongs to the field.
 """
 
 from dataclasses import dataclass, replace
+from typing import Any
 
 LARGE = 10**18
 CODES = (51, 52, 53, 54, 56, 57, 58, 59, 60, 62, 63, 64, 65, 66)  # of the devices
@@ -102,7 +103,9 @@ def with_fields(card: Card, *others: Field) -> Card:
 # ---- fields
 
 
-def _number(name: str, label: str, first: int, last: int, unit: str, scale: int, low: int, high: int, **more) -> Field:
+def _number(
+    name: str, label: str, first: int, last: int, unit: str, scale: int, low: int, high: int, **more: Any
+) -> Field:
     return Field(name, label, first, last, "number", unit, scale, low, high, **more)
 
 

@@ -40,7 +40,7 @@ class Compound(Network):
         """
         if (amplitude_v is None) == (amplitude_a is None):
             raise CaseError("a source has amplitude_v, as a voltage source, or amplitude_a, as a current source")
-        amplitude = amplitude_a if amplitude_v is None else amplitude_v
+        amplitude = amplitude_v if amplitude_v is not None else amplitude_a if amplitude_a is not None else 0.0
         fields.exact(hz, "hz"), fields.exact(cycles, "cycles"), fields.exact(phase_deg, "phase_deg")
         if not (hz > 0 and cycles > 0):
             raise CaseError("hz and cycles have to be above 0")

@@ -302,8 +302,9 @@ def analog(lines: Lines, revision: int, told: list[str]) -> Analog:
     if not scaling:
         one = "of edition 1991 nothing says" if revision == 1991 else "of some channels nothing says"
         tell(told, f"{one} whether values are primary or secondary: they are taken as they stand")
+    name, phase, circuit, unit = fields[1:5]
     return Analog(
-        *fields[1:5], multiplier, offset, skew * 1e-6, low, high, primary, secondary, scaling, lines.number
+        name, phase, circuit, unit, multiplier, offset, skew * 1e-6, low, high, primary, secondary, scaling, lines.number
     )  # fmt: skip
 
 

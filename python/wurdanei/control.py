@@ -137,8 +137,8 @@ class Control:
         limits = {side: self._limit(side, limit, name) for side, limit in (("low", low), ("high", high))}
         for found, _, _ in limits.values():
             texts |= found
-        kept = [limits[side][2] for side in ("low", "high")]
-        if None not in kept and kept[0] > kept[1]:
+        least, most = (limits[side][2] for side in ("low", "high"))
+        if least is not None and most is not None and least > most:
             raise CaseError(f"the low limit, {low}, is above the high one, {high}")
         cards = [self._draft.written(card, texts)]
         if order:

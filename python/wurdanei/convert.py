@@ -140,7 +140,8 @@ def made_up(content: Content, record: Record, its: argparse.Namespace) -> list[s
 
 def plain_text(content: Content) -> bool:
     """All names are ASCII, as edition 1999 wants."""
-    named = [(it.name, it.phase, it.circuit) for it in [*content.channels, *content.bars]]
+    its: list[Channel | Bar] = [*content.channels, *content.bars]
+    named = [(it.name, it.phase, it.circuit) for it in its]
     texts = [content.station, content.device, *(text for texts in named for text in texts)]
     return all(text.isascii() for text in [*texts, *(channel.unit for channel in content.channels)])
 

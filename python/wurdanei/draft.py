@@ -152,14 +152,14 @@ def joined(ends: tuple[str, str]) -> str:
     return "-".join(end or "0" for end in ends)
 
 
-Method = typing.TypeVar("Method", bound=typing.Callable)
+Method = typing.TypeVar("Method", bound=typing.Callable[..., typing.Any])
 
 
 def writes(method: Method) -> Method:
     """A method that writes cards: it writes all of them or, where it raises, none; an error names the call."""
 
     @functools.wraps(method)
-    def written(self, *words, **named):
+    def written(self: typing.Any, *words: typing.Any, **named: typing.Any) -> typing.Any:
         draft: Draft = self._draft
         if draft.call is not None:  # within a compound call
             return method(self, *words, **named)
@@ -179,7 +179,7 @@ def writes(method: Method) -> Method:
     return typing.cast(Method, written)
 
 
-def called(name: str, words: tuple, named: dict) -> Call:
+def called(name: str, words: tuple[typing.Any, ...], named: dict[str, typing.Any]) -> Call:
     """The call that reached this package from outside."""
     frame = sys._getframe(2)
     while frame.f_back and os.path.dirname(os.path.abspath(frame.f_code.co_filename)) == PACKAGE:
@@ -231,6 +231,7 @@ class Draft:
         if not least <= len(points) <= most:
             raise CaseError(f"there are {least} to {most} points, and here {len(points)}")
         found = []
+        point: typing.Any
         for number, point in enumerate(points, 1):
             if not isinstance(point, (typing.Sequence, np.ndarray)) or len(point) != 2:
                 raise CaseError(f"point {number} has two numbers, {names[0]} and {names[1]}")

@@ -4,10 +4,13 @@ Each takes the case's values and the measured ones at the same instants, shape (
 measured curve. docs/compare.md has their definitions in formulas, with their sources.
 """
 
+from collections.abc import Callable
 from typing import NamedTuple
 
 import numpy as np
 from scipy import fft
+
+Curves = tuple[np.ndarray, np.ndarray]  # of the case and of the measured record
 
 NOTHING = 1e-9  # of the greatest magnitude: a part of a curve below it is what transforms round to
 
@@ -80,16 +83,21 @@ def features(case: np.ndarray, measured: np.ndarray) -> Features:
     turn = min(_turn(both[half] + mirrored), _turn(both[half] - mirrored))
     place = np.minimum(np.arange(samples), samples - np.arange(samples))
     rest, slow = place >= 4, np.clip((turn + 3 - place) / 6, 0, 1)
-    parts = [[it.real, it.imag] for it in (fft.ifft(both * share) for share in (1 - rest, rest * slow))]
-    parts.append([whole - offset - low for whole, offset, low in zip((case, measured), *parts)])
-    offsets, lows, highs = ([it if np.max(abs(it)) > least else 0 * it for it in its] for its in parts)
-    low_slopes, high_slopes = ([np.gradient(it) for it in its] for its in (lows, highs))
-    high_bends = [np.gradient(it) for it in high_slopes]
-    shift = abs(_apart(*offsets, 1))
-    amplitude = abs(_apart(*lows, 1)) + shift * np.exp(shift)
-    feature = 2 * abs(_apart(*low_slopes, 2) + _apart(*high_slopes, 6) + _apart(*high_bends, 7.2))
+    offsets, lows = ((it.real, it.imag) for it in (fft.ifft(both * share) for share in (1 - rest, rest * slow)))
+    highs = (case - offsets[0] - lows[0], measured - offsets[1] - lows[1])
+    offsets, lows, highs = (
+        _both(lambda it: it if np.max(abs(it)) > least else 0 * it, its) for its in (offsets, lows, highs)
+    )
+    low_slopes, high_slopes = _both(np.gradient, lows), _both(np.gradient, highs)
+    shift = abs(_apart(offsets, 1))
+    amplitude = abs(_apart(lows, 1)) + shift * np.exp(shift)
+    feature = 2 * abs(_apart(low_slopes, 2) + _apart(high_slopes, 6) + _apart(_both(np.gradient, high_slopes), 7.2))
     whole = np.sqrt(amplitude**2 + feature**2)
-    return Features(*(float(it.mean()) for it in (amplitude, feature, whole)))
+    return Features(float(amplitude.mean()), float(feature.mean()), float(whole.mean()))
+
+
+def _both(change: Callable[[np.ndarray], np.ndarray], curves: Curves) -> Curves:
+    return change(curves[0]), change(curves[1])
 
 
 def _turn(spectrum: np.ndarray) -> int:
@@ -99,7 +107,8 @@ def _turn(spectrum: np.ndarray) -> int:
     return 4 + int(np.searchsorted(sums, 0.4 * sums[-1])) + 5 if len(sums) and sums[-1] > 0 else len(spectrum)
 
 
-def _apart(case: np.ndarray, measured: np.ndarray, weight: float) -> np.ndarray:
+def _apart(curves: Curves, weight: float) -> np.ndarray:
     """The difference of two magnitudes over so many times the mean of their sum; 0 where both are nothing."""
-    mean = float(np.mean(abs(case) + abs(measured)))
-    return (abs(case) - abs(measured)) / (weight * mean) if mean else np.zeros(len(case))
+    case, measured = abs(curves[0]), abs(curves[1])
+    mean = float(np.mean(case + measured))
+    return (case - measured) / (weight * mean) if mean else 0.0 * case

@@ -6,6 +6,7 @@ from __future__ import annotations
 import html
 import math
 import sys
+from typing import Any
 
 import numpy as np
 
@@ -76,11 +77,11 @@ def share_of(sizes: list[int]) -> int:
     return left // len(rest) if rest else POINTS
 
 
-def trace_of(objects, curve: Curve, most: int):
+def trace_of(objects: Any, curve: Curve, most: int) -> tuple[Any, int]:
     """The curve as plotly has it, and of how many samples each two are drawn; the x of an even grid is two numbers."""
     x, y, size = thinned(curve, most)
     spacing = even_spacing(x) if size == 1 else None
-    own = {"x": rounded(x, 10)} if spacing is None else {"x0": rounded(x[:1], 10)[0], "dx": spacing}
+    own: dict[str, Any] = {"x": rounded(x, 10)} if spacing is None else {"x0": rounded(x[:1], 10)[0], "dx": spacing}
     line = {"width": 1.3, "dash": DASHES[curve.style], "shape": "hv" if curve.stepped else "linear"}
     template = "%{y:.6~g} " + untagged(curve.unit)
     trace = objects.Scatter(
@@ -89,7 +90,7 @@ def trace_of(objects, curve: Curve, most: int):
     return trace, size
 
 
-def add_marks(objects, figure, pane: Pane, row: int) -> None:
+def add_marks(objects: Any, figure: Any, pane: Pane, row: int) -> None:
     """Marks and limits of a pane."""
     if pane.marks:
         figure.add_trace(
@@ -120,14 +121,15 @@ def add_marks(objects, figure, pane: Pane, row: int) -> None:
         )
 
 
-def add_bars(objects, figure, drawing: Drawing) -> None:
+def add_bars(objects: Any, figure: Any, drawing: Drawing) -> None:
     """The bars below the panes."""
+    none: list[float | None] = [None]  # so that a state that is never 1 has its row
     for bar in drawing.bars:
-        begins, ends = (rounded(np.array([span[side] for span in bar.spans]), 10) for side in (0, 1))
+        begins, ends = ([float(f"{span[side]:.10g}") for span in bar.spans] for side in (0, 1))
         figure.add_trace(
             objects.Bar(
                 y=[untagged(bar.name)] * max(1, len(bar.spans)),
-                x=[end - begin for begin, end in zip(begins, ends)] or [None],
+                x=[end - begin for begin, end in zip(begins, ends)] if begins else none,
                 base=begins or [0],
                 orientation="h",
                 name=untagged(bar.name),

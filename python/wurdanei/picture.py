@@ -11,6 +11,7 @@ from .configuration import RecordError
 from .drawing import Drawing, Pane, folded, needs, thinned
 
 if TYPE_CHECKING:
+    from matplotlib.axes import Axes
     from matplotlib.figure import Figure
 
 LINES = ["-", "--", "-.", ":"]
@@ -53,7 +54,7 @@ def draw(drawing: Drawing, path: str | BinaryIO) -> None:
             raise RecordError(f"{path}: {fault}") from None
 
 
-def draw_pane(axis, pane: Pane) -> None:
+def draw_pane(axis: Axes, pane: Pane) -> None:
     """Curves, marks and limits of a pane."""
     for curve in pane.curves:
         x, y, _ = thinned(curve, POINTS)
@@ -65,8 +66,8 @@ def draw_pane(axis, pane: Pane) -> None:
             linewidth=1.3 if curve.style else 0.9,
             drawstyle="steps-post" if curve.stepped else "default",
         )
-    for x, text in pane.limits:
-        axis.axvline(x, color="C3", linewidth=0.9, linestyle="--", label=plain(text))
+    for limit, text in pane.limits:
+        axis.axvline(limit, color="C3", linewidth=0.9, linestyle="--", label=plain(text))
     for mark in pane.marks:
         axis.plot([mark.x], [mark.y], "o", color="C3", markersize=4)
         axis.annotate(
@@ -89,7 +90,7 @@ def draw_pane(axis, pane: Pane) -> None:
     axis.grid(alpha=0.3)
 
 
-def draw_bars(axis, drawing: Drawing) -> None:
+def draw_bars(axis: Axes, drawing: Drawing) -> None:
     """The bars, the first one at the top."""
     for row, bar in enumerate(drawing.bars):
         spans = [(start, stop - start) for start, stop in bar.spans]

@@ -133,7 +133,8 @@ def run(
     also where SIGTERM or SIGHUP ends that.
     """
     known = {"show": shower, "judge": judge}
-    called = [known[words[0]](), *words[1:]] if words and words[0] in known else [emtp(), *words]
+    first, rest = (known[words[0]](), words[1:]) if words and words[0] in known else (emtp(), words)
+    called = [str(first), *rest]
     with ended_in_words():
         try:
             done = subprocess.run(

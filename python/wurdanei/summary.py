@@ -71,7 +71,7 @@ def read_line(made: Summary, line: str) -> None:
     words = line.split()
     row = re.match(r"ROW (\d+) (DONE|ENDED .*?) ?PEAKS ?(.*)$", line)
     if words[:1] == ["F"]:
-        found = complex(real(words[3]), real(words[5])) if words[2] == "RE" else " ".join(words[2:])
+        found: complex | str = complex(real(words[3]), real(words[5])) if words[2] == "RE" else " ".join(words[2:])
         made.points.append((real(words[1]), found))
     elif words[:1] == ["RESONANCE"]:
         made.resonances.append(real(words[1]))

@@ -15,6 +15,7 @@ given, as that of a cluster. docs/study.md is the page for its users.
 from __future__ import annotations
 
 import concurrent.futures
+import contextlib
 import csv
 import hashlib
 import inspect
@@ -49,6 +50,7 @@ ERROR, ENDED = "error", "ended"  # columns of each table
 Value = float | int | str | bool
 Point = dict[str, Value]
 Build = Callable[..., Any]
+Note = Callable[[int, Any], None]
 Measure = Callable[[Record], Any] | Sequence[str] | None
 
 
@@ -251,7 +253,7 @@ def run(
     done = notes.read() if notes else {}
     left = [place for place in range(len(its)) if place not in done]
     tell = _Teller(len(left), progress)
-    with program.ended_in_words(), notes.opened() if notes else _Nothing() as note:
+    with program.ended_in_words(), _Nothing() if notes is None else notes.opened() as note:
         for places, found in _answers(build, measure, its, left, jobs or len(os.sched_getaffinity(0)), executor):
             for place, row in zip(places, found):
                 done[place] = row
@@ -360,10 +362,10 @@ class _Teller:
             print(file=sys.stderr)
 
 
-class _Nothing:
+class _Nothing(contextlib.AbstractContextManager[Note]):
     """Notes nothing."""
 
-    def __enter__(self) -> Callable[[int, Any], None]:
+    def __enter__(self) -> Note:
         return lambda place, row: None
 
     def __exit__(self, *_: object) -> None:
@@ -404,11 +406,13 @@ class _Notes:
         return _Writer(self.path, self.head)
 
 
-class _Writer:
+class _Writer(contextlib.AbstractContextManager[Note]):
+    """The open file of a sweep's notes."""
+
     def __init__(self, path: pathlib.Path, head: dict[str, Any]) -> None:
         self.path, self.head = path, head
 
-    def __enter__(self) -> Callable[[int, Any], None]:
+    def __enter__(self) -> Note:
         new = not self.path.exists()
         self.file = open(self.path, "a", encoding="utf-8")
         if new:

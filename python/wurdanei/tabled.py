@@ -133,10 +133,10 @@ def answer(
     columns = [peaks.columns_of(its, channels, words.base) for its in found]
     if cases.headings:
         write_values(os.path.join(means.room, "values.csv"), cases, headings, columns)
-    for place, its in enumerate(columns):
+    for place, own in enumerate(columns):
         if cases.headings:
             print(cases.told(place))
-        print("\n".join(peaks.listing(headings, its)))
+        print("\n".join(peaks.listing(headings, own)))
     if cases.headings:
         seldom = {
             f"{heading}: 2 % exceed": [peaks.statistics(its[place]).seldom for its in columns]

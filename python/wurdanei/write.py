@@ -98,7 +98,7 @@ def write(path: str, content: Content, form: str = "BINARY", revision: int = 199
         size = data_size(content, form)
         head = b"--- file type: CFG ---\r\n" + text + b"--- file type: INF ---\r\n\r\n--- file type: HDR ---\r\n\r\n"
         head += f"--- file type: DAT {form}{'' if size is None else f': {size}'} ---\r\n".encode()
-        files = {path: chain([head], pieces)}
+        files: dict[str, Iterable[bytes]] = {path: chain([head], pieces)}
     else:
         stem, ending = os.path.splitext(path)
         files = {path: [text], stem + (".DAT" if ending.isupper() else ".dat"): pieces}
@@ -125,7 +125,8 @@ def check(path: str, content: Content, form: str, revision: int, whole: bool) ->
     if not len(content.times):
         refuse("no samples")
     texts = [("station", content.station), ("device", content.device)]
-    for it in [*content.channels, *content.bars]:
+    its: list[Channel | Bar] = [*content.channels, *content.bars]
+    for it in its:
         texts += [("name", it.name), ("phase", it.phase), ("circuit", it.circuit)]
         if len(it.values) != len(content.times):
             refuse(f"{it.name} has {len(it.values)} values, and there are {len(content.times)} samples")
