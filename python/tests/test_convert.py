@@ -88,6 +88,17 @@ class Convert(Folder):
             self.assertIn("1,V MID,,,V,0.0000005,0,0,-32767,32767,400,0.1,S\n", file.read())
         self.assertEqual(list(read(self.out("o.cfg")).channel("V MID").round(9)), [0.0, 50.0, 50.0, -0.014])
 
+    def test_is_secondary(self):
+        """Values of the secondary side stay, and have the ratio: 0, 50, 50 and -.014 V of 400/0.1."""
+        source = self.files(OWN_CFG, OWN_DAT)
+        said = self.run_words(source, self.out("o.cfg"), "--is-secondary", "V*=400/0.1", "--form", "ascii")
+        self.assertIn("secondary by 400/0.1", said)
+        with open(self.out("o.cfg")) as file:
+            self.assertIn("1,V MID,,,V,0.002,0,0,-32767,32767,400,0.1,S\n", file.read())
+        with open(self.out("o.dat"), "rb") as file:
+            self.assertEqual([int(line.split(b",")[2]) for line in file.read().splitlines()[:4]], [0, 25000, 25000, -7])
+        self.assertEqual(list(read(self.out("o.cfg")).channel("V MID").round(6)), [0.0, 2e5, 2e5, -56.0])
+
     def test_window(self):
         source = self.files(OWN_CFG, OWN_DAT)
         self.run_words(source, self.out("o.cfg"), "--from", "1e-4", "--to", "2e-4", "--only", "S A-B")
@@ -214,6 +225,10 @@ class Convert(Folder):
             ([source, self.out("o.cfg"), "--rename", "V MID"], "'V MID' isn't of the form NAME=VALUE"),
             ([source, self.out("o.cfg"), "--secondary", "V*=4:1"], "the ratio '4:1' isn't of the form"),
             ([source, self.out("o.cfg"), "--secondary", "V*=4/0"], "the ratio '4/0' isn't of the form"),
+            (
+                [source, self.out("o.cfg"), "--secondary", "V*=4/1", "--is-secondary", "V*=4/1"],
+                "named by --secondary and",
+            ),
             ([source, self.out("o.cfg"), "--phases", "V MID=ABC"], "the phase 'ABC' is longer than 2"),
             (
                 [source, self.out("o.cfg"), "--date", "28/11/2026"],

@@ -57,6 +57,13 @@ def parser() -> argparse.ArgumentParser:
         help="secondary values by a ratio, as 'V*=400000/100'",
     )
     made.add_argument(
+        "--is-secondary",
+        metavar="NAME=P/S",
+        action="append",
+        default=[],
+        help="channels whose values are secondary already, as of a current transformer: 'I CT*=1200/1'",
+    )
+    made.add_argument(
         "--phases",
         metavar="NAME=PH[:CIRCUIT]",
         action="append",
@@ -160,6 +167,10 @@ def converted(record: Record, its: argparse.Namespace) -> Content:
     names = chosen(its.only, every, record.path) if its.only else every
     renamed = assigned(its.rename, every, record.path)
     ratios = {name: ratio(word) for name, word in assigned(its.secondary, record.names, record.path).items()}
+    own = {name: ratio(word) for name, word in assigned(its.is_secondary, record.names, record.path).items()}
+    both = [name for name in own if name in ratios]
+    if both:
+        raise RecordError(f"{both[0]} is named by --secondary and by --is-secondary")
     phases = assigned(its.phases, record.names, record.path)
     kept, times = kept_times(record, its)
     channels, bars = [], []
@@ -169,11 +180,12 @@ def converted(record: Record, its: argparse.Namespace) -> Content:
             continue
         place = record.names.index(name)
         phase, _, circuit = phases.get(name, f"{record.phases[place]}:{record.circuits[place]}").partition(":")
-        primary, secondary = ratios.get(name, record.ratio(name))
+        primary, secondary = (ratios | own).get(name, record.ratio(name))
+        factor = primary / secondary if name in own else 1.0
         channel = Channel(
-            renamed.get(name, name), record.units[place], values_at(record, name, kept, times, its.rate), phase,
-            circuit, 0.0 if its.rate else record.skew(name), primary, secondary, "S" if name in ratios else "P",
-            math.nan if its.rate else record.multiplier(name),
+            renamed.get(name, name), record.units[place], factor * values_at(record, name, kept, times, its.rate), phase,
+            circuit, 0.0 if its.rate else record.skew(name), primary, secondary,
+            "S" if name in ratios or name in own else "P", math.nan if its.rate else factor * record.multiplier(name),
         )  # fmt: skip
         channels.append(channel)
     begin = times[0]
