@@ -21,7 +21,7 @@ import numpy as np
 from .configuration import RecordError
 from .lowpass import lowpass
 from .record import Record
-from .signals import Signal, signal_of
+from .signals import Signal, signal_of, where
 
 LEAST_SAMPLES, MOST_SAMPLES = 8, 400  # of a cycle
 ALIKE = 0.1  # by so much may the offset fall otherwise from one eighth of a cycle to the next
@@ -64,14 +64,14 @@ def phasors_of(
     count = int(np.floor(min(wanted, MOST_SAMPLES * hz if rate is None else wanted) / hz + 1e-6))
     if not LEAST_SAMPLES <= count or wanted > 1.001 * own:
         raise RecordError(
-            f"{record.path}: {wanted:g} samples a second of {hz:g} Hz, where the record has {own:.6g}: "
+            f"{where(record)}: {wanted:g} samples a second of {hz:g} Hz, where the record has {own:.6g}: "
             f"a relay has at least {LEAST_SAMPLES} samples a cycle, and no more than the record"
         )
     begin = max(float(it.times[0]) for it in signals)
     end = min(float(it.times[-1]) for it in signals)
     times = begin + np.arange(int((end - begin) * hz * count * (1 + 1e-12)) + 1) / (hz * count)
     if len(times) < 2 * count:
-        raise RecordError(f"{record.path}: it lasts {end - begin:g} s, and two cycles of {hz:g} Hz are needed")
+        raise RecordError(f"{where(record)}: it lasts {end - begin:g} s, and two cycles of {hz:g} Hz are needed")
     shown = np.array([_sampled(it, times, corner) for it in signals])
     return Phasors(times, turned(shown, times, hz, count, offset), hz, count, shown)
 

@@ -73,6 +73,11 @@ def spelled(record: Record, text: str) -> list[tuple[float, str]]:
     return found
 
 
+def where(record: Record) -> str:
+    """What an error says that it is of."""
+    return record.path or "the record"
+
+
 def signal_of(record: Record, text: str, unit: str) -> Signal:
     """The curve of a channel, or of several, in V or A as `unit` says.
 
@@ -83,13 +88,13 @@ def signal_of(record: Record, text: str, unit: str) -> Signal:
         part = record.channel(name)  # says what the record has instead
         factor, own = base_unit(record.units[record.names.index(name)].strip())
         if own != unit:
-            raise RecordError(f"{record.path}: {name} is in {own or 'no unit'}, and {QUANTITIES[unit]} is wanted")
+            raise RecordError(f"{where(record)}: {name} is in {own or 'no unit'}, and {QUANTITIES[unit]} is wanted")
         gone = int(np.isnan(part).sum())
         if gone:
-            raise RecordError(f"{record.path}: {name}: {gone} of its {len(part)} values are missing")
+            raise RecordError(f"{where(record)}: {name}: {gone} of its {len(part)} values are missing")
         own_times = record.times_of(name)
         if len(own_times) < 3 or not (np.diff(own_times) > 0).all():
-            raise RecordError(f"{record.path}: {name} has fewer than three samples, or their times don't rise")
+            raise RecordError(f"{where(record)}: {name} has fewer than three samples, or their times don't rise")
         part = sign * factor * part
         if times is None or values is None:
             times, values = own_times, part

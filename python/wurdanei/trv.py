@@ -32,7 +32,7 @@ from .convert import number as real
 from .drawing import Curve, Drawing, Mark, Pane
 from .envelope import DUTIES, LINE_OHM, LINE_PEAK, Envelope, NotAtHand, given, rated
 from .record import Record, read
-from .signals import Signal, signal_of, spelled
+from .signals import Signal, signal_of, spelled, where
 from .tangents import SKIPPED, Tangents, tangents_of
 
 QUIET = 0.002  # of the current's crest: below it the pole carries nothing
@@ -123,13 +123,13 @@ def evaluate(
     times, values = volts.times[kept] - zero.time, volts.values[kept]
     if len(times) < FEWEST:
         raise RecordError(
-            f"{record.path}: {len(times)} samples of {pole} stand behind the zero at {zero.time:g} s, and {FEWEST} are needed"
+            f"{where(record)}: {len(times)} samples of {pole} stand behind the zero at {zero.time:g} s, and {FEWEST} are needed"
         )
     sign = 1.0 if values[np.argmax(np.abs(values))] > 0 else -1.0
     try:
         lines = tangents_of(times, sign * values)
     except ValueError:
-        raise RecordError(f"{record.path}: {pole} doesn't rise behind the zero at {zero.time:g} s") from None
+        raise RecordError(f"{where(record)}: {pole} doesn't rise behind the zero at {zero.time:g} s") from None
     found = envelope_of(rated_kv, duty, kpp, envelope, told)
     judged, line = sign * values, None
     if duty in ("L90", "L75") and found is not None:
@@ -209,7 +209,7 @@ def zero_of(record: Record, pole: str, current: str | None, volts: Signal) -> Ze
         closed = np.flatnonzero(record.states(state) == 1)
         if not len(closed) or closed[-1] + 1 >= len(record.times):
             raise RecordError(
-                f"{record.path}: the pole {pole} doesn't open: {state} is {'1 to' if len(closed) else '0 from'} its end"
+                f"{where(record)}: the pole {pole} doesn't open: {state} is {'1 to' if len(closed) else '0 from'} its end"
             )
         at = int(closed[-1])
         return Zero(
@@ -219,7 +219,9 @@ def zero_of(record: Record, pole: str, current: str | None, volts: Signal) -> Ze
     most = float(np.abs(volts.values).max())
     there = np.abs(volts.values) > max(QUIET * most, 2 * volts.least)
     if not most or there[0]:
-        raise RecordError(f"{record.path}: {pole} isn't 0 before it rises, and no current says when it opens: name one")
+        raise RecordError(
+            f"{where(record)}: {pole} isn't 0 before it rises, and no current says when it opens: name one"
+        )
     at = int(np.argmax(there)) - 1
     return Zero(
         float(volts.times[at]), math.nan, at + 1,
@@ -233,7 +235,7 @@ def zero_of_current(record: Record, amps: Signal, state: str | None) -> Zero:
     floor = max(QUIET * most, 3 * amps.least)
     carrying = np.abs(amps.values) > floor
     if not most or not carrying.any():
-        raise RecordError(f"{record.path}: {amps.name} carries no current")
+        raise RecordError(f"{where(record)}: {amps.name} carries no current")
     last = last_of_first_stretch(record, amps, carrying, state)
     quiet = last + 1
     still = max(1e-9 * most, 1.5 * amps.least)
@@ -268,7 +270,7 @@ def last_of_first_stretch(record: Record, amps: Signal, carrying: np.ndarray, st
         closed = record.states(state)
         opens = np.flatnonzero((closed[:-1] == 1) & (closed[1:] == 0))
         if not len(opens):
-            raise RecordError(f"{record.path}: the pole doesn't open: {state} has no change from 1 to 0")
+            raise RecordError(f"{where(record)}: the pole doesn't open: {state} has no change from 1 to 0")
         before = np.flatnonzero(carrying[: opens[0] + 1])
         if len(before):
             return int(before[-1])
@@ -280,7 +282,7 @@ def last_of_first_stretch(record: Record, amps: Signal, carrying: np.ndarray, st
         again = np.flatnonzero(carrying[end + 1 :])
         if not len(again) or again[0] > longest:
             return end
-    raise RecordError(f"{record.path}: {amps.name} carries current to the end of the record: the pole doesn't open")
+    raise RecordError(f"{where(record)}: {amps.name} carries current to the end of the record: the pole doesn't open")
 
 
 def _turn(values: np.ndarray, last: int) -> int:
@@ -518,7 +520,7 @@ def poles_of(record: Record) -> list[str]:
     ]
     if not 1 <= len(found) <= 3:
         raise RecordError(
-            f"{record.path}: {len(found)} voltages of switches could be poles: name each by --pole, as --pole 'U S-L'"
+            f"{where(record)}: {len(found)} voltages of switches could be poles: name each by --pole, as --pole 'U S-L'"
         )
     return found
 
