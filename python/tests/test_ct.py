@@ -116,16 +116,16 @@ class InCase(unittest.TestCase):
         case = Case(2.5e-5, 0.1)
         case.cosine("E", amplitude_v=100e3, hz=50, phase_deg=-90)
         case.series("E", "SA", r_ohm=0.3, l_mh=20)
-        ct.in_case(case, "SA", "LA", "CTA", **VALUES)
+        case.ct("SA", "LA", "CTA", **VALUES)
         case.series("LA", r_ohm=0.1)
         record = case.run()
         self.assertEqual(record.names, ["I CTA-0", "I SA-LA"])
         wanted = iterated(record.times, record.channel("I SA-LA"))
         self.assertLess(apart(record.channel("I CTA-0")[1:], wanted[:-1]), 2e-3)
         with self.assertRaisesRegex(CaseError, "measured already"):
-            ct.in_case(case, "X", "LA", "CTB", **VALUES)
+            case.ct("X", "LA", "CTB", **VALUES)
         with self.assertRaisesRegex(CaseError, "letters and digits"):
-            ct.in_case(case, "X", "L.A", "CTB", **VALUES)
+            case.ct("X", "L.A", "CTB", **VALUES)
 
 
 if __name__ == "__main__":

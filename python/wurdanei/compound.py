@@ -7,6 +7,7 @@ import numpy as np
 
 from . import columns, fields
 from .control import Control
+from .ct import in_case
 from .draft import CaseError, Switch, joined, writes
 from .formula import FUNCTIONS
 from .network import Network, Three, three_names
@@ -18,6 +19,7 @@ class Compound(Network):
     """Writes several cards a call, through the methods of the network and the control."""
 
     control: Control
+    ct = in_case  # a saturable current transformer
 
     # ---- sources that the control drives
 
