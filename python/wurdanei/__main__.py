@@ -8,12 +8,17 @@ import os
 import sys
 
 COMMANDS = {  # the word, its module, what it does
+    "arrester": ("arrester", "energy, charge and crests of an arrester, and the insulation beside it"),
     "compare": ("compare", "lays the record of a case beside a measured one"),
     "convert": ("convert", "makes another COMTRADE record of a record, or a table (csv)"),
+    "locate": ("locate", "finds where a fault was, and its resistance, from a measured record"),
     "play": ("play", "makes measured voltages or currents the sources of a case"),
     "plot": ("plot", "draws a record, a scan or a batch as a picture or a page"),
+    "relay": ("relay", "impedances, zones, overcurrent and differential current of a record"),
     "ruler": ("ruler", "prints the columns of a card and the names of its fields"),
+    "scan": ("scan_at", "prints the impedance at a node of a case, its sources dead (with --at NODE)"),
     "study": ("study", "runs a case under many switch times or values, or many cases, on all processors"),
+    "trv": ("trv", "lays the recovery voltage of a breaker's pole beside the envelope of a duty"),
 }
 
 
