@@ -175,6 +175,15 @@ class Poles(unittest.TestCase):
         for name in ("U S-L", "V S - V L", "V L - V S"):
             self.assertAlmostEqual(trv.evaluate(record, name, "-I S-L").uc / 120e3, 1, 5)
 
+    def test_a_variable(self):
+        """A variable of the control has no unit; that it counts as volts is told. A current isn't a voltage."""
+        found = cut(1e-3, 1.4e-3, lambda t: np.minimum(1.2e9 * t, 120e3))
+        its = trv.evaluate(
+            record_of(self.stem, STEP, {"T TRV": ("PU", found["U S-L"][1]), "I S-L": found["I S-L"]}), "T TRV", "I S-L"
+        )
+        self.assertAlmostEqual(its.uc / 120e3, 1, 5)
+        self.assertIn("T TRV has no unit", its.told[0])
+
     def test_carries_again(self):
         """What comes after a restrike isn't judged."""
         found = cut(1e-3, 2e-3, lambda t: np.where(t < 2e-4, 5e8 * t, 0))

@@ -83,7 +83,7 @@ def duty(record: Record, u: str, i: str, ur_kv: float | None = None, points: Poi
     if ur_kv is not None and not ur_kv > 0:
         raise RecordError(f"a rated voltage of {ur_kv:g} kV isn't above 0")
     t, v, a = volts.times, volts.values, amps.at(volts.times)
-    told = []
+    told = [*volts.told, *amps.told]
     steps = np.diff(t)
     energies = np.concatenate([[0.0], np.cumsum(steps * (v[1:] * a[1:] + v[:-1] * a[:-1]) / 2)])
     energy, charge = float(energies[-1]), float(np.sum(steps * (np.abs(a[1:]) + np.abs(a[:-1])) / 2))

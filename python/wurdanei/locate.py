@@ -389,7 +389,9 @@ def main(words: list[str]) -> int:
         )
     except (compare.CompareError, align.AlignError, program.ProgramError) as fault:
         raise LocateError(str(fault)) from None
-    print(f"{len(found.tries)} runs; time of the measured record = time of the case + {1e3 * found.shift:.4f} ms")
+    print(
+        f"{len(found.tries)} runs; time of the measured record = time of the case {'-' if found.shift < 0 else '+'} {1e3 * abs(found.shift):.4f} ms"
+    )
     for name, value in found.values.items():
         print(f"{name} = {value:.6g}, standard deviation {found.deviations[name]:.2g}")
     print(f"RMS {found.rms:.2f} % of the measured curves")

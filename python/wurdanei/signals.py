@@ -4,7 +4,8 @@
     signal_of(record, "-I VSA-LSA", "A")     the other way round, as of a current transformer that is turned
     signal_of(record, "V S - V L", "V")      a difference; the signs stand between blanks
 
-`U S-L` of a record that has none is the difference of the node voltages V S and V L.
+`U S-L` of a record that has none is the difference of the node voltages V S and V L. A variable of the control, whose
+unit is PU, counts as what is wanted, and that is told.
 """
 
 from __future__ import annotations
@@ -31,6 +32,7 @@ class Signal:
     times: np.ndarray = field(repr=False)
     values: np.ndarray = field(repr=False)
     least: float = 0.0  # the least difference of two values that the record keeps, 0 where it keeps all digits
+    told: tuple[str, ...] = ()
 
     @property
     def step(self) -> float:
@@ -84,11 +86,14 @@ def signal_of(record: Record, text: str, unit: str) -> Signal:
     RecordError where the record has no such channel, where it is no voltage or current, or where values are missing.
     """
     times, values, least = None, None, 0.0
+    told = []
     for sign, name in spelled(record, text):
         part = record.channel(name)  # says what the record has instead
         factor, own = base_unit(record.units[record.names.index(name)].strip())
-        if own != unit:
-            raise RecordError(f"{where(record)}: {name} is in {own or 'no unit'}, and {QUANTITIES[unit]} is wanted")
+        if own in ("", "1"):
+            told.append(f"{name} has no unit, and counts as {QUANTITIES[unit]}")
+        elif own != unit:
+            raise RecordError(f"{where(record)}: {name} is in {own}, and {QUANTITIES[unit]} is wanted")
         gone = int(np.isnan(part).sum())
         if gone:
             raise RecordError(f"{where(record)}: {name}: {gone} of its {len(part)} values are missing")
@@ -102,7 +107,7 @@ def signal_of(record: Record, text: str, unit: str) -> Signal:
             values = values + np.interp(times, own_times, part)
         least = max(least, _least(record, name) * factor)
     assert times is not None and values is not None  # a text has a term
-    return Signal(text, unit, times, values, least)
+    return Signal(text, unit, times, values, least, tuple(told))
 
 
 def _least(record: Record, name: str) -> float:

@@ -111,7 +111,8 @@ def evaluate(
     `within` s after the zero are looked at, else all that the record has. RecordError where the record has no such
     channel, or where the pole doesn't open.
     """
-    volts, told = signal_of(record, pole, "V"), []
+    volts = signal_of(record, pole, "V")
+    told = list(volts.told)
     zero = zero_of(record, pole, current, volts)
     told += [zero.told] if zero.told else []
     end = end_of(record, pole, current, volts, zero, told)
