@@ -27,17 +27,17 @@ flux = OHM * current / RATIO * (tau * (1 - np.exp(-t / tau)) - np.sin(W * t) / W
 hand = float(t[np.argmax(flux > 0.52)])
 times = record.times
 lost = float(times[np.argmax((times > 2e-3) & (np.abs(ideal - seen) > 0.1 + np.abs(np.gradient(ideal))))])
-print(f"the flux reaches .52 Wb at {1e3 * hand:.2f} ms by hand; the record has lost .1 A at {1e3 * lost:.2f} ms")
-print(f"first crest {seen[times < 0.02].max():.2f} A, and {ideal[times < 0.02].max():.2f} A without saturation")
+print(f"the flux reaches .52 Wb at {1e3 * hand:.1f} ms by hand; the record has lost .1 A at {1e3 * lost:.1f} ms")
+print(f"first crest {seen[times < 0.02].max():.0f} A, and {ideal[times < 0.02].max():.0f} A without saturation")
 
 # the same on the record alone, a step earlier; and with a remanence of 70 %
 alone = ct.secondary(times, record.channel("I SA-LA"), ratio=RATIO, rct_ohm=6, burden_ohm=2, points=POINTS)
 apart = np.sqrt(np.mean((alone[:-1] - seen[1:]) ** 2) / np.mean(alone**2))
-print(f"in the case and on the record: {100 * apart:.2f} % RMS apart")
+print(f"in the case and on the record: {100 * apart:.1f} % RMS apart")
 kept = ct.secondary(
     times, record.channel("I SA-LA"), ratio=RATIO, rct_ohm=6, burden_ohm=2, points=POINTS, remanence=0.7
 )
-print(f"with a remanence of 70 % the first crest is {kept[times < 0.02].max():.2f} A")
+print(f"with a remanence of 70 % the first crest is {kept[times < 0.02].max():.0f} A")
 
 if len(sys.argv) > 1:
     curves = [Curve("primary / 1200", 1e3 * times, ideal, "A"), Curve("secondary", 1e3 * times, seen, "A")]

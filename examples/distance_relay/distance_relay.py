@@ -41,7 +41,7 @@ for part in (0.5, 0.85):
         its = relay.loops(record, *names, z1_ohm=Z1, z0_ohm=Z0, hz=50, rate=4000, offset=offset)
         z, hand = its.at(FAULT + 0.1)["AG"], part * Z1
         print(
-            f"{100 * part:.0f} %, {words}: {z.real:.2f} + j {z.imag:.2f} ohm, by hand {hand.real:.2f} + j {hand.imag:.2f}"
+            f"{100 * part:.0f} %, {words}: {z.real:.1f} + j {z.imag:.1f} ohm, by hand {hand.real:.1f} + j {hand.imag:.1f}"
         )
         for it in relay.pickup(its, zone):
             print(f"  {it.loop} {relay.stay(it, FAULT)}")

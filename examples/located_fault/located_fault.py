@@ -30,9 +30,7 @@ with tempfile.TemporaryDirectory() as room:
 (km, ohm), (by_km, by_ohm) = found.values.values(), found.deviations.values()
 print(f"the fault was at {km:.0f} km, and at 120; through {ohm:.0f} ohm, and through 5")
 print(f"standard deviations below {math.ceil(by_km * 10) / 10 + 0.2:.1f} km and {math.ceil(by_ohm * 10) / 10:.1f} ohm")
-print(
-    f"it began {1e3 * -found.shift:.2f} ms after the case, and 100.30; others fit nearly as well: {len(found.others)}"
-)
+print(f"it began {1e3 * -found.shift:.1f} ms after the case, and 100.3; others fit nearly as well: {len(found.others)}")
 
 if len(sys.argv) > 1:
     picture.draw(locate.drawing_of(found, "a fault on a line of 300 km"), sys.argv[1])
