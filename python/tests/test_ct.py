@@ -1,16 +1,20 @@
 """A current transformer beside an independent integration and beside formulas."""
 
+import contextlib
+import io
 import math
 import pathlib
 import sys
+import tempfile
 import unittest
 
 sys.path.insert(0, str(pathlib.Path(__file__).resolve().parent))
 
 import numpy as np  # noqa: E402
-from networks import CHANNELS, FAULT, W, faulted_line  # noqa: E402
+from networks import CHANNELS, FAULT, W, faulted_line, record_of  # noqa: E402
 from scipy.integrate import solve_ivp  # type: ignore[import]  # noqa: E402
-from wurdanei import ct, program  # noqa: E402
+from wurdanei import ct, program, read  # noqa: E402
+from wurdanei.__main__ import main  # noqa: E402
 from wurdanei.case import Case, CaseError  # noqa: E402
 
 POINTS = [(0.005, 0.35), (0.02, 0.45), (0.1, 0.52), (1.0, 0.58), (20.0, 0.75)]
@@ -88,7 +92,8 @@ class Secondary(unittest.TestCase):
             ({"knee_v": 5}, "magnetising curve"),
             ({"points": None, "knee_v": 5}, "knee_a"),
             ({"points": [(1, 1), (1, 2)]}, "rise"),
-            ({"points": []}, "a point at least"),
+            ({"points": []}, "two numbers"),
+            ({"points": [(1,)]}, "two numbers"),
             ({"points": None, "knee_v": 1, "knee_a": 10, "saturated_mh": 100}, "a fifth"),
             ({"remanence": 1.2}, "remanence"),
         ):
@@ -98,6 +103,40 @@ class Secondary(unittest.TestCase):
             ct.secondary(times, amps[1:], **VALUES)
         with self.assertRaisesRegex(CaseError, "missing"):
             ct.secondary(times, amps * np.nan, **VALUES)
+
+
+class Command(unittest.TestCase):
+    def test_command(self):
+        """Two currents, one of which saturates; both sides secondary in what is written."""
+        with tempfile.TemporaryDirectory() as room:
+            path, times = pathlib.Path(room), np.arange(4001) * 2.5e-5
+            small, large = 300 * np.sin(W * times), 15e3 * math.sqrt(2) * (np.exp(-times / 0.06) - np.cos(W * times))
+            channels = {"V A": ("kV", 180 * np.cos(W * times)), "I A": ("A", small), "I B": ("kA", large / 1e3)}
+            record_of(path / "x", 2.5e-5, channels)
+            own = ["ct", str(path / "x.cfg"), str(path / "y.cfg"), "--ratio", "1200/1", "--rct", "6", "--burden", "2"]
+            curve = ["--points", ",".join(f"{i}:{f}" for i, f in POINTS)]
+            files = ["--out", str(path / "o.png"), "--csv", str(path / "o.csv"), "--curves", str(path / "c.csv")]
+            for words, status, text in (
+                (["--i", "I A,I B", "--v", "V A", "--vt", "220000/100", *curve, *files], 1, "I B: crest"),
+                (["--i", "I A", *curve], 0, "DOESN'T SATURATE"),
+                (["--i", "I A", "--knee", "200,.05"], 0, "DOESN'T SATURATE"),
+                (["--i", "I A"], 2, ""),
+                (["--i", "I A", "--points", "1"], 2, ""),
+                (["--i", "V A", *curve], 2, ""),
+                (["--i", "I A", *curve, "--remanence", "2"], 2, ""),
+            ):
+                said, fault = io.StringIO(), io.StringIO()
+                with self.subTest(words=words), contextlib.redirect_stdout(said), contextlib.redirect_stderr(fault):
+                    self.assertEqual(main([*own, *words]), status)
+                    self.assertEqual(bool(fault.getvalue()), not text)
+                self.assertIn(text, said.getvalue())
+                if status == 1:
+                    found = read(path / "y.cfg")
+                    self.assertEqual(found.secondary(), ["V A", "I A", "I B"])
+                    self.assertLess(apart(found.channel("V A"), 180e3 * np.cos(W * times)), 1e-4)
+                    self.assertLess(apart(found.channel("I B") / 1200, ct.secondary(times, large, **VALUES)), 1e-3)
+            with contextlib.redirect_stderr(io.StringIO()):
+                self.assertEqual(main([*own[:2], str(path / "x.cff"), *own[3:], "--i", "I A", *curve]), 2)
 
 
 @unittest.skipUnless(program.is_there(), "emtp isn't there")

@@ -175,6 +175,19 @@ class Poles(unittest.TestCase):
         for name in ("U S-L", "V S - V L", "V L - V S"):
             self.assertAlmostEqual(trv.evaluate(record, name, "-I S-L").uc / 120e3, 1, 5)
 
+    def test_three_poles(self):
+        """Poles that clear 3.3 and 5 ms apart are told in their order, each by its own zero."""
+        curves = {}
+        for name, zero in (("A", 6e-3), ("B", 9.3e-3), ("C", 4.3e-3)):
+            found = cut(zero, 12e-3, lambda t: np.minimum(1.2e9 * t, 120e3))
+            curves |= {f"U {name}-0": found["U S-L"], f"I {name}-0": found["I S-L"]}
+        record_of(self.stem, STEP, curves, {f"S {it}-0": curves[f"I {it}-0"][1] != 0 for it in "ABC"})
+        said = io.StringIO()
+        with contextlib.redirect_stdout(said):
+            self.assertEqual(main(["trv", f"{self.stem}.cfg", "--rated", "145"]), 0)
+        self.assertIn("in this order: U C-0, U A-0, U B-0", said.getvalue())
+        self.assertIn("U B-0: the current became zero at 9.3 ms", said.getvalue())
+
     def test_a_variable(self):
         """A variable of the control has no unit; that it counts as volts is told. A current isn't a voltage."""
         found = cut(1e-3, 1.4e-3, lambda t: np.minimum(1.2e9 * t, 120e3))
@@ -250,6 +263,17 @@ class Poles(unittest.TestCase):
         self.assertEqual(len((out / "v.csv").read_text().splitlines()), 2)
         self.assertTrue((out / "a.png").stat().st_size and (out / "a.html").stat().st_size)
         self.assertEqual((out / "c.csv").read_text().splitlines()[0].split(",")[0], "pole")
+
+
+class Helps(unittest.TestCase):
+    def test_each_command(self):
+        """Each command of the studies says what its exit status means."""
+        for word in ("trv", "arrester", "relay", "ct", "locate", "scan"):
+            said = io.StringIO()
+            with self.subTest(word=word), contextlib.redirect_stdout(said), self.assertRaises(SystemExit) as end:
+                main([word, "--help"])
+            self.assertEqual(end.exception.code, 0)
+            self.assertIn("xit status", said.getvalue())
 
 
 @unittest.skipUnless(program.is_there(), "emtp isn't there")

@@ -1,4 +1,4 @@
-"""A saturable current transformer: on a current of a record, or in a case.
+"""A saturable current transformer: on currents of a record, or in a case.
 
     secondary(times, amps, ratio=1200, rct_ohm=6, burden_ohm=2, points=[(.005, .35), (.02, .45), (.1, .52), (1, .58), (20, .75)])
     case.ct("SA", "LA", "CTA", ratio=1200, rct_ohm=6, burden_ohm=2, points=[..])
@@ -54,14 +54,14 @@ def checked_points(
         if knee_v is None or knee_a is None:
             raise CaseError("a knee has knee_v and knee_a, the exciting current there")
         return knee_points(knee_v, knee_a, saturated_mh, hz)
+    if not len(points) or not all(len(it) == 2 for it in points):
+        raise CaseError("a magnetising curve has points of two numbers, A and Wb")
     its = [(float(i), float(flux)) for i, flux in points]
     before = (0.0, 0.0)
     for now in its:
         if not (now[0] > before[0] and now[1] > before[1] and math.isfinite(now[0]) and math.isfinite(now[1])):
             raise CaseError("the points of a magnetising curve rise, in A and in Wb, from above 0 on")
         before = now
-    if not its:
-        raise CaseError("a magnetising curve has a point at least")
     return its
 
 
