@@ -36,6 +36,7 @@ from .record import Record, read
 Names = Sequence[str]
 GROUND, PHASE = ("AG", "BG", "CG"), ("AB", "BC", "CA")
 LOOPS = GROUND + PHASE
+ACROSS = 8.2  # inches of a picture's pane
 NOTHING = 1e-3  # of the greatest current of any loop: below it a loop has no impedance
 TURN = cmath.exp(2j * math.pi / 3)
 CURVES = {"NI": (0.14, 0.02), "VI": (13.5, 1.0), "EI": (80.0, 2.0)}  # IEC 60255-151, A, B and C
@@ -530,7 +531,16 @@ def drawing_of(
         curves.append(Curve(name, np.where(near, z.real, np.nan), np.where(near, z.imag, np.nan), "ohm"))
         if near[-1]:
             marks.append(Mark(float(z[-1].real), float(z[-1].imag), f"{name} at {1e3 * times[-1]:.0f} ms"))
-    return Drawing(title, [Pane("X, ohm", curves, "R, ohm", height=6.0, marks=marks)])
+    return Drawing(title, [Pane("X, ohm", curves, "R, ohm", height_of(curves), marks=marks)])
+
+
+def height_of(curves: Sequence[Curve]) -> float:
+    """The height of a pane in inches by which an ohm is as long up as across, from 4 to 9."""
+    wide, high = (
+        max(float(np.nanmax(it)) for it in its) - min(float(np.nanmin(it)) for it in its)
+        for its in ([curve.x for curve in curves], [curve.y for curve in curves])
+    )
+    return float(np.clip(ACROSS * high / wide, 4.0, 9.0))
 
 
 def overcurrent_told(record: Record, amps: list[str], its: argparse.Namespace) -> int:
