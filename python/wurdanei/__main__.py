@@ -11,6 +11,7 @@ COMMANDS = {  # the word, its module, what it does
     "arrester": ("arrester", "energy, charge and crests of an arrester, and the insulation beside it"),
     "compare": ("compare", "lays the record of a case beside a measured one"),
     "convert": ("convert", "makes another COMTRADE record of a record, or a table (csv)"),
+    "ct": ("current_transformers", "writes the secondary currents of saturable current transformers"),
     "locate": ("locate", "finds where a fault was, and its resistance, from a measured record"),
     "play": ("play", "makes measured voltages or currents the sources of a case"),
     "plot": ("plot", "draws a record, a scan or a batch as a picture or a page"),
