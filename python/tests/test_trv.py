@@ -175,6 +175,18 @@ class Poles(unittest.TestCase):
         for name in ("U S-L", "V S - V L", "V L - V S"):
             self.assertAlmostEqual(trv.evaluate(record, name, "-I S-L").uc / 120e3, 1, 5)
 
+    def test_missing(self):
+        """A few missing values are left out, and told; more than 1 % are refused."""
+        found = cut(1e-3, 1.4e-3, lambda t: np.minimum(1.2e9 * t, 120e3))
+        found["I S-L"][1][[10, 400, 990]] = found["U S-L"][1][[500, 1050]] = np.nan
+        its = trv.evaluate(record_of(self.stem, STEP, found))
+        self.assertAlmostEqual(its.uc / 120e3, 1, 5)
+        self.assertLess(abs(its.t0 - 1e-3), STEP / 20)
+        self.assertIn("2 missing values", its.told[0])
+        found["U S-L"][1][300:320] = np.nan
+        with self.assertRaisesRegex(RecordError, "are missing"):
+            trv.evaluate(record_of(self.stem, STEP, found))
+
     def test_three_poles(self):
         """Poles that clear 3.3 and 5 ms apart are told in their order, each by its own zero."""
         curves = {}

@@ -39,6 +39,7 @@ class Phasors:
     hz: float
     samples: int  # of a cycle
     shown: np.ndarray = field(repr=False)  # the samples behind the filter, shape (channels, samples)
+    told: list[str]
 
 
 def phasors_of(
@@ -73,7 +74,8 @@ def phasors_of(
     if len(times) < 2 * count:
         raise RecordError(f"{where(record)}: it lasts {end - begin:g} s, and two cycles of {hz:g} Hz are needed")
     shown = np.array([_sampled(it, times, corner) for it in signals])
-    return Phasors(times, turned(shown, times, hz, count, offset), hz, count, shown)
+    told = list(dict.fromkeys(words for it in signals for words in it.told))
+    return Phasors(times, turned(shown, times, hz, count, offset), hz, count, shown, told)
 
 
 def _sampled(signal: Signal, times: np.ndarray, corner: float | None) -> np.ndarray:

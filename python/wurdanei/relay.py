@@ -58,6 +58,7 @@ class Loops:
     k0: complex
     hz: float
     samples: int  # of a cycle
+    told: list[str]
 
     def sequences(self, what: str) -> np.ndarray:
         """The zero, positive and negative sequence of the voltages ("v") or currents ("i"): shape (3, samples), crest."""
@@ -113,7 +114,7 @@ def loops(
             z = drops[name] / flows[name]
             z[~(np.abs(flows[name]) > NOTHING * most)] = np.nan
         found[name] = z
-    return Loops(its.times, found, v, i, k0, hz, its.samples)
+    return Loops(its.times, found, v, i, k0, hz, its.samples, its.told)
 
 
 def _three(names: Names, what: str) -> None:
@@ -275,6 +276,7 @@ class Trips:
     amps: np.ndarray = field(repr=False)  # shape (phases, samples)
     start: list[float]
     trip: list[float]
+    told: list[str]
 
 
 def overcurrent(
@@ -299,7 +301,7 @@ def overcurrent(
         trip.append(float(its.times[there[0]]) if len(there) else math.nan)
         spans = spans_of(its.times, above)
         start.append(spans[-1][0] if spans and math.isnan(spans[-1][1]) else (spans[0][0] if spans else math.nan))
-    return Trips(its.times, effective, start, trip)
+    return Trips(its.times, effective, start, trip, its.told)
 
 
 # ---- differential
@@ -313,6 +315,7 @@ class Differential:
     amps: np.ndarray = field(repr=False)
     restraint: np.ndarray = field(repr=False)
     spans: list[list[tuple[float, float]]]
+    told: list[str]
 
 
 def differential(
@@ -335,7 +338,7 @@ def differential(
     amps, restraint = np.abs(one + two), (np.abs(one) + np.abs(two)) / 2
     trips = (np.nan_to_num(amps) > least_a) & (np.nan_to_num(amps) > slope * np.nan_to_num(restraint))
     times = near.times[:count]
-    return Differential(times, amps, restraint, [spans_of(times, row) for row in trips])
+    return Differential(times, amps, restraint, [spans_of(times, row) for row in trips], near.told + far.told)
 
 
 # ---- the command
@@ -429,6 +432,8 @@ def zones_told(record: Record, amps: list[str], its: argparse.Namespace) -> int:
     zones = zones_of(its, z1)
     expected = expected_of(its.expect, len(zones))
     found = loops(record, parted(its.v), amps, z1, z0, its.hz, its.rate, its.lowpass, not its.keep_offset)
+    for told in found.told:
+        print(told)
     print(
         f"line {z1.real:.4g} + j {z1.imag:.4g} ohm, k0 {abs(found.k0):.4g} at {math.degrees(cmath.phase(found.k0)):.3g} degrees; "
         f"{found.samples} samples a cycle of {its.hz:g} Hz, decaying offset {'kept' if its.keep_offset else 'taken out'}"
@@ -553,6 +558,8 @@ def overcurrent_told(record: Record, amps: list[str], its: argparse.Namespace) -
             f"--overcurrent {its.overcurrent}: it is a setting in A, NI, VI, EI or DT, and a time"
         ) from None
     found = overcurrent(record, amps, relay, its.hz, its.rate, its.lowpass, not its.keep_offset)
+    for told in found.told:
+        print(told)
     zero = its.fault or 0.0
     for name, row, start, trip in zip(amps, found.amps, found.start, found.trip):
         most = f"at most {np.nanmax(row):.5g} A RMS, {np.nanmax(row) / relay.setting_a:.3g} times the setting"
@@ -586,6 +593,8 @@ def differential_told(record: Record, amps: list[str], its: argparse.Namespace) 
     there = parted(its.there)
     other = read(its.other) if its.other else None
     found = differential(record, amps, there, least, slope, its.hz, other, its.rate, its.lowpass)
+    for told in found.told:
+        print(told)
     zero = its.fault or 0.0
     for name, row, spans in zip(amps, found.amps, found.spans):
         most = f"differential current at most {np.nanmax(row):.5g} A RMS"

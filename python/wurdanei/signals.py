@@ -20,6 +20,7 @@ from .drawing import base_unit
 from .record import Record
 
 SIGN = re.compile(r" ([+-]) ")
+MOST_MISSING = 0.01  # of a channel's values
 QUANTITIES = {"V": "a voltage (V)", "A": "a current (A)"}
 
 
@@ -83,7 +84,8 @@ def where(record: Record) -> str:
 def signal_of(record: Record, text: str, unit: str) -> Signal:
     """The curve of a channel, or of several, in V or A as `unit` says.
 
-    RecordError where the record has no such channel, where it is no voltage or current, or where values are missing.
+    Up to 1 % of the values may be missing. RecordError where more are, where the record has no such channel, or where it is
+    no voltage or current.
     """
     times, values, least = None, None, 0.0
     told = []
@@ -94,10 +96,13 @@ def signal_of(record: Record, text: str, unit: str) -> Signal:
             told.append(f"{name} has no unit, and counts as {QUANTITIES[unit]}")
         elif own != unit:
             raise RecordError(f"{where(record)}: {name} is in {own}, and {QUANTITIES[unit]} is wanted")
-        gone = int(np.isnan(part).sum())
-        if gone:
+        good = np.isfinite(part)
+        gone = len(part) - int(good.sum())
+        if gone > MOST_MISSING * len(part):
             raise RecordError(f"{where(record)}: {name}: {gone} of its {len(part)} values are missing")
-        own_times = record.times_of(name)
+        own_times, part = record.times_of(name)[good], part[good]
+        if gone:
+            told.append(f"{name}: {gone} missing values are left out, and it goes straight over them")
         if len(own_times) < 3 or not (np.diff(own_times) > 0).all():
             raise RecordError(f"{where(record)}: {name} has fewer than three samples, or their times don't rise")
         part = sign * factor * part

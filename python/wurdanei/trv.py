@@ -89,7 +89,7 @@ class Zero:
 
     time: float
     slope: float
-    quiet: int  # the first sample without current
+    quiet: float  # s of the first sample without current
     told: str
 
 
@@ -120,7 +120,7 @@ def evaluate(
         if not within > 0:
             raise RecordError(f"{within:g} s after the zero: a time above 0 is looked at")
         end = min(end, zero.time + within)
-    kept = (np.arange(len(volts.times)) >= zero.quiet) & (volts.times > zero.time) & (volts.times <= end)
+    kept = (volts.times >= zero.quiet - 1e-3 * volts.step) & (volts.times > zero.time) & (volts.times <= end)
     times, values = volts.times[kept] - zero.time, volts.values[kept]
     if len(times) < FEWEST:
         raise RecordError(
@@ -214,7 +214,7 @@ def zero_of(record: Record, pole: str, current: str | None, volts: Signal) -> Ze
             )
         at = int(closed[-1])
         return Zero(
-            float(record.times[at]), math.nan, at + 1,
+            float(record.times[at]), math.nan, float(record.times[at + 1]),
             f"no current is at hand: the zero is the last sample at which {state} is closed, up to {volts.step:g} s early",
         )  # fmt: skip
     most = float(np.abs(volts.values).max())
@@ -225,7 +225,7 @@ def zero_of(record: Record, pole: str, current: str | None, volts: Signal) -> Ze
         )
     at = int(np.argmax(there)) - 1
     return Zero(
-        float(volts.times[at]), math.nan, at + 1,
+        float(volts.times[at]), math.nan, float(volts.times[at + 1]),
         "no current and no state is at hand: the zero is the last sample before the voltage rises",
     )  # fmt: skip
 
@@ -247,7 +247,7 @@ def zero_of_current(record: Record, amps: Signal, state: str | None) -> Zero:
     places = np.flatnonzero(near)
     if len(places) < 3:
         return Zero(
-            float(amps.times[last]), math.nan, quiet,
+            float(amps.times[last]), math.nan, float(amps.times[quiet]),
             f"{amps.name} has fewer than three samples on its way to zero: the last one that carries current is taken",
         )  # fmt: skip
     at = amps.times[places] - amps.times[last]
@@ -261,7 +261,7 @@ def zero_of_current(record: Record, amps: Signal, state: str | None) -> Zero:
             f"{amps.name} was cut at {amps.values[last]:.4g} A, before its zero: the last sample with current is taken"
         )
         root = 0.0
-    return Zero(float(amps.times[last]) + root, float(way.deriv()(root)), quiet, told)
+    return Zero(float(amps.times[last]) + root, float(way.deriv()(root)), float(amps.times[quiet]), told)
 
 
 def last_of_first_stretch(record: Record, amps: Signal, carrying: np.ndarray, state: str | None) -> int:
@@ -272,7 +272,7 @@ def last_of_first_stretch(record: Record, amps: Signal, carrying: np.ndarray, st
         opens = np.flatnonzero((closed[:-1] == 1) & (closed[1:] == 0))
         if not len(opens):
             raise RecordError(f"{where(record)}: the pole doesn't open: {state} has no change from 1 to 0")
-        before = np.flatnonzero(carrying[: opens[0] + 1])
+        before = np.flatnonzero(carrying & (amps.times <= record.times[opens[0]] + 0.5 * amps.step))
         if len(before):
             return int(before[-1])
     edges = np.flatnonzero(np.diff(carrying.astype(np.int8)))
@@ -300,12 +300,11 @@ def end_of(record: Record, pole: str, current: str | None, volts: Signal, zero: 
     if name is None:
         return float(volts.times[-1])
     amps = signal_of(record, name, "A")
-    again = np.flatnonzero(
-        np.abs(amps.values[zero.quiet + 1 :]) > max(QUIET * np.abs(amps.values).max(), 3 * amps.least)
-    )
+    floor = max(QUIET * float(np.abs(amps.values).max()), 3 * amps.least)
+    again = np.flatnonzero((np.abs(amps.values) > floor) & (amps.times > zero.quiet))
     if not len(again):
         return float(volts.times[-1])
-    at = float(amps.times[zero.quiet + int(again[0])])
+    at = float(amps.times[int(again[0]) - 1])
     told.append(
         f"the pole carries current again {1e6 * (at - zero.time):.4g} us after the zero: only the time before is judged"
     )
