@@ -19,7 +19,10 @@ from dataclasses import dataclass
 
 import numpy as np
 
-SKIPPED = 3  # samples behind the zero whose quotient by the time would show the error of the zero
+SKIPPED, FINE = (
+    3,
+    60,
+)  # samples behind the zero whose quotient by the time would show its error; up to the crest, else 1
 HOLLOW = 0.005  # of the crest: what counts as a hollow of the curve
 NEAR = 2.0  # crests up to so many times the first contact have no third line
 
@@ -39,6 +42,11 @@ class Tangents:
     @property
     def t3(self) -> float:
         return self.uc / self.rate
+
+
+def skipped(peak: int) -> int:
+    """How many samples behind the zero don't count, where the crest is the sample `peak`."""
+    return SKIPPED if peak >= FINE else 1
 
 
 def hull_of(times: np.ndarray, values: np.ndarray) -> np.ndarray:
@@ -61,20 +69,21 @@ def tangents_of(times: np.ndarray, values: np.ndarray) -> Tangents:
     ValueError where no sample lies behind the first ones.
     """
     peak = int(np.argmax(values))
-    if peak < SKIPPED or values[peak] <= 0:
+    first = skipped(peak)
+    if peak < first or values[peak] <= 0:
         raise ValueError("the voltage doesn't rise after the zero")
-    t = np.concatenate([[0.0], times[SKIPPED : peak + 1]])
-    v = np.concatenate([[0.0], values[SKIPPED : peak + 1]])
+    t = np.concatenate([[0.0], times[first : peak + 1]])
+    v = np.concatenate([[0.0], values[first : peak + 1]])
     uc, t_uc = float(values[peak]), float(times[peak])
     corners = hull_of(t, v)
-    first = int(corners[1])
-    rate = float(v[first] / t[first])
+    touch = int(corners[1])
+    rate = float(v[touch] / t[touch])
     third = third_line(t, v, corners)
     if third is None:
-        return Tangents(uc, t_uc, rate, float(t[first]), np.nan, np.nan, np.nan)
+        return Tangents(uc, t_uc, rate, float(t[touch]), np.nan, np.nan, np.nan)
     slope, level = third  # v = level + slope t
     t1 = level / (rate - slope)
-    return Tangents(uc, t_uc, rate, float(t[first]), rate * t1, t1, (uc - level) / slope)
+    return Tangents(uc, t_uc, rate, float(t[touch]), rate * t1, t1, (uc - level) / slope)
 
 
 def third_line(t: np.ndarray, v: np.ndarray, corners: np.ndarray) -> tuple[float, float] | None:

@@ -33,11 +33,12 @@ from .drawing import Curve, Drawing, Mark, Pane
 from .envelope import DUTIES, LINE_OHM, LINE_PEAK, Envelope, NotAtHand, given, rated
 from .record import Record, read
 from .signals import Signal, signal_of, spelled, where
-from .tangents import SKIPPED, Tangents, tangents_of
+from .tangents import Tangents, skipped, tangents_of
 
 QUIET = 0.002  # of the current's crest: below it the pole carries nothing
 BEFORE = 0.4e-3  # s before the zero that show the current's way to it
-FEWEST = 20  # samples of the recovery voltage
+FEWEST, COARSE = 20, 20  # samples of the recovery voltage, and of it up to its crest
+SHORT = ("L90", "L75")
 NEAR = 1e-3  # of an envelope: what rounding and the zero's error come to
 
 
@@ -131,13 +132,16 @@ def evaluate(
         lines = tangents_of(times, sign * values)
     except ValueError:
         raise RecordError(f"{where(record)}: {pole} doesn't rise behind the zero at {zero.time:g} s") from None
+    before = int(np.searchsorted(times, lines.t_uc))
+    if before < COARSE:
+        told.append(f"{before} samples stand between the zero and the crest: the true rate of rise may be greater")
     found = envelope_of(rated_kv, duty, kpp, envelope, told)
     judged, line = sign * values, None
-    if duty in ("L90", "L75") and found is not None:
+    if duty in SHORT and found is not None:
         source, line = short_line(record, pole, zero, times, sign, told)
         judged = judged if source is None else source
         found = None if source is None else found
-    return judge(pole, zero, lines, found, judged, line, told, times, sign * values)
+    return judge(pole, zero, lines, found, judged, line, duty in SHORT, told, times, sign * values)
 
 
 def judge(
@@ -147,6 +151,7 @@ def judge(
     found: Envelope | None,
     judged: np.ndarray,
     line: LineSide | None,
+    short: bool,
     told: list[str],
     times: np.ndarray,
     volts: np.ndarray,
@@ -156,13 +161,15 @@ def judge(
     passes: bool | None = None
     if found is not None:
         share = judged / found.at(times)
-        share[: min(SKIPPED, len(share) - 1)] = -np.inf
+        share[: skipped(int(np.argmax(volts)))] = -np.inf
         nearest = int(np.argmax(share))
         margin, t_margin = 1.0 - float(share[nearest]), float(times[nearest])
         over = np.flatnonzero(share > 1.0 + NEAR)
         crossing = float(times[over[0]]) if len(over) else math.nan
         delay = delay_crossing(found, times, judged)
         passes = not len(over) and (line is None or line.passes)
+        if short and line is None and passes:
+            passes = None  # half of it is
     return Trv(
         pole, zero.time, zero.slope, lines.uc, lines.t_uc, lines.rate, lines.t_rate, lines.u1, lines.t1, lines.t2,
         lines.t3, found, margin, t_margin, crossing, delay, line, passes, told, times, volts, judged,
@@ -380,12 +387,12 @@ def lines_of(it: Trv, duty: str) -> list[str]:
             f"first crest {it.line.peak:.3g} times the voltage at the zero (at most {LINE_PEAK:g})"
         )
     if it.envelope is not None:
-        whose = "source's side below" if it.line is not None else "below"
+        side = "source's side " if duty in SHORT else ""
         said.append(f"  envelope of {duty}: {it.envelope}")
         said.append(
-            f"  {whose} its reference line by {100 * max(it.margin, 0.0):.1f} % at least, {1e6 * it.t_margin:.4g} us after the zero"
+            f"  {side}below its reference line by {100 * max(it.margin, 0.0):.1f} % at least, {1e6 * it.t_margin:.4g} us after the zero"
             if math.isnan(it.crossing)
-            else f"  OVER its reference line by {-100 * it.margin:.1f} % at {1e6 * it.t_margin:.4g} us; "
+            else f"  {side}OVER its reference line by {-100 * it.margin:.1f} % at {1e6 * it.t_margin:.4g} us; "
             f"it first crosses it at {1e6 * it.crossing:.4g} us"
         )
     if it.envelope is not None and it.envelope.td is not None:
