@@ -25,7 +25,7 @@ NAMES = ("UL1", "UL2", "UL3", "IL1", "IL2", "IL3")
 
 def recorded(path: pathlib.Path, km: int, ohm: float) -> None:
     """What a recorder makes of the other simulator's fault: one file, secondary values, begun at 70 ms."""
-    times = BEGIN + np.arange(round(0.16 * RATE)) / RATE
+    times = BEGIN + np.arange(round(0.13 * RATE)) / RATE
     seen = sections.measured(km, ohm, FAULT, times, CORNER)
     chance = np.random.default_rng(3)
     channels = []
@@ -121,8 +121,8 @@ class Line(unittest.TestCase):
     def test_by_python(self):
         pairs = [compare.Wanted(a, b, None) for a, b in zip(sum(CHANNELS, []), NAMES)]
         found = locate.fit(
-            lambda km, ohm: faulted_line("AG", km / 100, ohm, 0.225, FAULT), read(self.path / "m.cff"), pairs,
-            {"km": (5, 95), "ohm": (0.1, 40)}, window=(0.11, 0.22), corner=CORNER, grid=4, jobs=2,
+            lambda km, ohm: faulted_line("AG", km / 100, ohm, 0.2, FAULT), read(self.path / "m.cff"), pairs,
+            {"km": (5, 95), "ohm": (0.1, 40)}, window=(0.11, 0.195), corner=CORNER, grid=4, jobs=2,
         )  # fmt: skip
         self.assertLess(abs(found.values["km"] - 63), 0.2)
         self.assertLess(abs(found.values["ohm"] - 8), 0.2)
@@ -133,7 +133,7 @@ class Line(unittest.TestCase):
 
     def test_command(self):
         """The same of a case of a file, by its lines."""
-        case = faulted_line("AG", 0.5, 5.0, 0.225, FAULT)
+        case = faulted_line("AG", 0.5, 5.0, 0.2, FAULT)
         case.write(self.path / "c.case", rulers=False)
         lines = (self.path / "c.case").read_text().splitlines()
         own = [k for k, line in enumerate(lines, 1) if line.startswith(("-1LA    FA", "-2LB    FB"))]
@@ -143,13 +143,13 @@ class Line(unittest.TestCase):
         words = [str(self.path / it) for it in ("c.case", "m.cff", "pairs")]
         vary = [
             "--vary",
-            f"{own[0]},{own[1]}:LENGTH=5:95",
+            f"{own[0]},{own[1]}:LENGTH=50:80",
             "--rest",
             f"{far[0]},{far[1]}:LENGTH=100",
             "--vary",
-            f"{ohm}:R=.1:40",
+            f"{ohm}:R=4:12",
         ]
-        more = ["--lowpass", "1200", "--from", ".11", "--to", ".22", "--grid", "4", "--jobs", "2"]
+        more = ["--lowpass", "1200", "--from", ".11", "--to", ".195", "--grid", "2", "--jobs", "2"]
         files = [
             "--out",
             str(self.path / "l.png"),
