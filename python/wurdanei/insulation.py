@@ -93,7 +93,7 @@ def column_of(path: str, name: str) -> np.ndarray:
     heads = rows[0] if rows else []
     found = [place for place, head in enumerate(heads) if name in (head, head.rsplit(" (", 1)[0])]
     if len(found) != 1:
-        raise RecordError(f"{path} has {len(found)} columns {name!r}; it has {', '.join(heads[:30]) or 'none'}")
+        raise RecordError(f"{path} has {len(found) or 'no'} column {name!r}; it has {', '.join(heads[:30]) or 'none'}")
     values = []
     for number, row in enumerate(rows[1:], 2):
         try:
