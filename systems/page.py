@@ -16,8 +16,10 @@ from typing import Any
 import tables
 
 PARTS = Path(__file__).resolve().parent / "page"
-# what the page's own script is made of, and that of its workers
-SCRIPT = ["record.js", "cards.js", "plot.js", "page.js"]
+# what the page's own script is made of (`PURE`: what needs no page), and that of its workers
+PURE = ["record.js", "cards.js", "pictures.js", "plot.js"]
+OF_PAGE = ["elements", "case", "store", "program", "editor", "checking", "running", "meaning", "results", "files", "page"]
+SCRIPT = [*PURE, *(f"{it}.js" for it in OF_PAGE)]
 WORKER = ["record.js", "call.js", "worker.js"]
 FIRST = "breaker_recovery"  # the example that is open at first
 MOST_GIVEN = 300_000  # bytes of a record that an example brings along at most

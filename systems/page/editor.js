@@ -1,0 +1,196 @@
+// ---- the editor
+
+const editor = (() => {
+  const area = $("cards"), HEIGHT = 20, PAD = 4;
+  let lines = [""], read = [], wide = 8, overwrites = false, leaves = false, timer = 0, frame = 0;
+  let marks = new Map(); // by line: [{ kind, from, to, text }]
+
+  const text = () => area.value;
+  const measure = () => {
+    $("probe").textContent = "0".repeat(200);
+    wide = $("probe").getBoundingClientRect().width / 200 || 8;
+  };
+
+  // The line and the column of the cursor, counted from 1.
+  function place() {
+    const before = area.value.slice(0, area.selectionDirection === "backward" ? area.selectionStart : area.selectionEnd);
+    const line = before.split("\n").length;
+    return { line, column: before.length - before.lastIndexOf("\n") };
+  }
+
+  const offset = (line, column) => {
+    let at = 0;
+    for (let count = 1; count < line; count++) at += lines[count - 1].length + 1;
+    return at + Math.min(column - 1, lines[line - 1].length);
+  };
+
+  function goto(line, column, last = column) {
+    line = Math.min(Math.max(1, line), lines.length);
+    area.focus();
+    area.setSelectionRange(offset(line, column), offset(line, last));
+    const top = (line - 1) * HEIGHT, left = (column - 1) * wide;
+    if (top < area.scrollTop || top > area.scrollTop + area.clientHeight - 2 * HEIGHT) area.scrollTop = Math.max(0, top - area.clientHeight / 3);
+    if (left < area.scrollLeft || left > area.scrollLeft + area.clientWidth - 4 * wide) area.scrollLeft = Math.max(0, left - area.clientWidth / 3);
+    redraw();
+  }
+
+  // Another case: the cursor stands on its first branch, so that a ruler is seen.
+  function setText(value) {
+    area.value = value;
+    marks = new Map();
+    changed();
+    const branch = Math.max(0, read.findIndex(([kind]) => kind === "a branch card"));
+    area.setSelectionRange(offset(branch + 1, 3), offset(branch + 1, 3));
+    area.scrollTop = area.scrollLeft = 0;
+  }
+
+  function changed() {
+    lines = area.value.split("\n");
+    read = cards.kinds(lines);
+    redraw();
+  }
+
+  function redraw() {
+    if (frame) return;
+    frame = requestAnimationFrame(() => {
+      frame = 0;
+      draw();
+    });
+  }
+
+  // Draws line numbers and marks of the lines that are seen, the ruler and the field.
+  function draw() {
+    const { line, column } = place();
+    const { scrollTop, scrollLeft, clientHeight } = area;
+    const first = Math.floor(scrollTop / HEIGHT), last = Math.min(lines.length - 1, Math.ceil((scrollTop + clientHeight) / HEIGHT));
+    const gutter = [], layer = [];
+    const put = (kind, row, from, to, more = {}) => {
+      const element = make("div", { class: kind, ...more });
+      element.style.top = `${row * HEIGHT - scrollTop}px`;
+      if (from) element.style.left = `${PAD + (from - 1) * wide - scrollLeft}px`;
+      if (to) element.style.width = `${(to - from + 1) * wide}px`;
+      layer.push(element);
+      return element;
+    };
+    const end = make("div", { class: "end" });
+    end.style.left = `${PAD + 80 * wide - scrollLeft}px`;
+    layer.push(end);
+    const fields = cards.fieldsAt(read[line - 1]?.[1], lines[line - 1] ?? "", column);
+    for (let row = first; row <= last; row++) {
+      const own = marks.get(row + 1) ?? [];
+      const worst = own.some(it => it.kind === "refused") ? "refused" : own.length ? "warned" : "";
+      const label = make("div", { class: [worst, row + 1 === line ? "here" : ""].join(" "), textContent: row + 1 });
+      label.style.top = `${row * HEIGHT - scrollTop}px`;
+      gutter.push(label);
+      if (row + 1 === line) {
+        put("here", row);
+        if (fields[0]) put("field", row, fields[0].from, fields[0].to);
+      }
+      for (const it of own) if (it.from) put(it.kind, row, it.from, it.to);
+      if (own.length) {
+        const text = own.map(it => it.text).join("; ");
+        put(`said by-${worst}`, row, freeColumn(lines[row], Math.max(0, ...own.map(it => it.to || 0)), text), 0, { textContent: text });
+      }
+    }
+    $("gutter").replaceChildren(...gutter);
+    $("layer").replaceChildren(...layer);
+    drawRuler(line, column, fields, scrollLeft);
+  }
+
+  // The first column behind these where a line has room for what is said of it.
+  function freeColumn(line, behind, text) {
+    const wanted = Math.ceil(text.length * 6.2 / wide) + 2;
+    for (const gap of line.slice(behind).matchAll(/ {2,}/g)) if (gap[0].length >= wanted) return behind + gap.index + 2;
+    return Math.max(line.length, behind) + 2;
+  }
+
+  const TENS = Array.from({ length: 8 }, (_, place) => String(place + 1).padStart(10)).join("");
+  function drawRuler(line, column, fields, scrollLeft) {
+    const [kind, ruler] = read[line - 1] ?? ["", null];
+    $("ruler-slide").style.transform = `translateX(${-scrollLeft}px)`;
+    $("ruler-tens").textContent = TENS;
+    $("ruler-ones").textContent = "1234567890".repeat(8);
+    $("ruler-names").textContent = cards.ruler(ruler);
+    const [it] = fields;
+    $("ruler-field").style.left = `${((it?.from ?? 1) - 1) * wide}px`;
+    $("ruler-field").style.width = `${it ? (it.to - it.from + 1) * wide : 0}px`;
+    $("ruler-caret").style.left = `${(column - 1) * wide - 1}px`;
+    const told = [make("span", { class: "place", textContent: `line ${line}, column ${column}${overwrites ? ", replacing" : ""}` })];
+    if (kind) {
+      const type = cards.typeName(ruler, lines[line - 1]);
+      told.push(make("span", { textContent: kind + (type ? ` (${type})` : "") }));
+    }
+    for (const it of fields) {
+      const columns = it.from === it.to ? `column ${it.from}` : `columns ${it.from}-${it.to}`;
+      told.push(make("span", {}, make("b", { textContent: cards.nameOf(it) }), `, ${columns}${cards.describe(it) ? ": " + cards.describe(it) : ""}`));
+    }
+    if (ruler && !fields.length) told.push(make("span", { class: "place", textContent: column > 80 ? "past column 80 only blanks may stand" : "no field reads this column" }));
+    if ($("field").textContent !== told.map(it => it.textContent).join("")) $("field").replaceChildren(...told);
+  }
+
+  // Puts text in place of a part, so that it can be undone.
+  function replace(from, to, value) {
+    area.setSelectionRange(from, to);
+    if (!document.execCommand("insertText", false, value)) {
+      area.setRangeText(value, from, to, "end");
+      changed();
+    }
+  }
+
+  // To the first column of the next field of the card, or of the one before; blanks are put where the line is too short.
+  function nextField(back) {
+    const { line, column } = place();
+    const starts = cards.fieldsOf(read[line - 1]?.[1], lines[line - 1]).map(it => it.from);
+    const target = back ? starts.filter(it => it < column).pop() : starts.find(it => it > column);
+    if (target === undefined) return goto(back ? line - 1 || 1 : line + 1, 1);
+    const lacks = target - 1 - lines[line - 1].length;
+    if (lacks > 0) {
+      const end = offset(line, lines[line - 1].length + 1);
+      replace(end, end, " ".repeat(lacks));
+    }
+    return goto(line, target);
+  }
+
+  area.addEventListener("input", () => {
+    changed();
+    checking.soon();
+    clearTimeout(timer);
+    timer = setTimeout(store.keep, 600);
+  });
+  area.addEventListener("scroll", redraw);
+  document.addEventListener("selectionchange", () => {
+    if (document.activeElement !== area) return;
+    redraw();
+    results.follow(place().line);
+  });
+  area.addEventListener("blur", () => { leaves = false; });
+  area.addEventListener("keydown", event => {
+    if (event.key === "Escape") leaves = true;
+    else if (event.key === "Tab" && !leaves && !event.ctrlKey && !event.altKey && !event.metaKey) {
+      event.preventDefault();
+      nextField(event.shiftKey);
+    } else if (event.key === "Insert" && !event.shiftKey && !event.ctrlKey) {
+      overwrites = !overwrites;
+      redraw();
+    } else if (overwrites && event.key.length === 1 && !event.ctrlKey && !event.altKey && !event.metaKey) {
+      const at = area.selectionStart;
+      if (at === area.selectionEnd && at < area.value.length && area.value[at] !== "\n") area.setSelectionRange(at, at + 1);
+    } else if (event.key !== "Shift") leaves = false;
+  });
+  new ResizeObserver(() => {
+    measure();
+    redraw();
+  }).observe($("editor"));
+
+  return {
+    text, setText, goto, place, redraw,
+    kind: line => read[line - 1] ?? ["", null],
+    line: line => lines[line - 1] ?? "",
+    count: () => lines.length,
+    setMarks(found) {
+      marks = new Map();
+      for (const it of found) marks.set(it.line, [...(marks.get(it.line) ?? []), it]);
+      redraw();
+    },
+  };
+})();
