@@ -3,7 +3,7 @@
 
     systems/build.py page FOLDER      emtp.html: the program in a page of a browser, in one file
     systems/build.py systems FOLDER   emtp.exe (Windows), emtp-aarch64 and emtp-x86_64 (Linux, static)
-    systems/build.py anew FILE        emtp.html once more, of its parts as they stand and the modules that are in it
+    systems/build.py anew FILE        emtp.html once more, of its parts as they stand and the module that is in it
     systems/build.py same FILE        whether emtp.html is that
 
 The first two begin with the LLVM module that the toolchain's compiler makes of the library once it is proved: `rt lib` proves and
@@ -12,7 +12,8 @@ for byte). The module is made for x86-64; its layout of data, triple and process
 system, and clang compiles it. What it takes from around it are the three functions of the heap alone, which stand beside this
 file; any other stops the build.
 
-It needs the toolchain (rt). Addresses of 32 bits for the page are made by wasm-opt (Debian: binaryen); the programs are linked by
+It needs the toolchain (rt). Addresses of 32 bits for the page are made by wasm-opt (Debian: binaryen), without which there is no
+page; the programs are linked by
 x86_64-w64-mingw32-gcc (gcc-mingw-w64-x86-64), aarch64-linux-gnu-gcc (gcc-aarch64-linux-gnu) and gcc with libc6-dev. What is
 missing is said, and what can be made without it is made.
 """
@@ -272,11 +273,10 @@ def with_table_of_32(module64: bytes) -> bytes:
     return module64.replace(table, kept) if count else module64
 
 
-def lowered(module64: bytes, room: Path) -> bytes | None:
-    """The module with addresses of 32 bits, for browsers that have no others; none where binaryen isn't there."""
+def lowered(module64: bytes, room: Path) -> bytes:
+    """The module with addresses of 32 bits, which all browsers have; by wasm-opt."""
     if not shutil.which("wasm-opt"):
-        say("wasm-opt isn't there (Debian: binaryen): the page has the module of 64 bits alone")
-        return None
+        raise Lacking("wasm-opt isn't there, which gives the page's module addresses of 32 bits (Debian: binaryen)")
     (room / "table.wasm").write_bytes(with_table_of_32(module64))
     features = ["memory64", "bulk-memory", "sign-ext", "mutable-globals", "nontrapping-float-to-int", "multivalue"]
     flags = [f"--enable-{it}" for it in features]
@@ -291,12 +291,11 @@ def in_room():
         yield Path(room)
 
 
-def modules(room: Path) -> dict[str, bytes]:
-    """The modules of WebAssembly, by their kind."""
-    text = module(room).read_text(encoding="utf-8")
-    module64 = wasm(text, room)
-    module32 = lowered(module64, room)
-    return {"module64": module64, **({"module32": module32} if module32 else {})}
+def page_module(room: Path) -> bytes:
+    """The page's module of WebAssembly."""
+    if not shutil.which("wasm-opt"):
+        lowered(b"", room)  # says so before an hour of proving
+    return lowered(wasm(module(room).read_text(encoding="utf-8"), room), room)
 
 
 # ---- what is made
@@ -305,24 +304,22 @@ def modules(room: Path) -> dict[str, bytes]:
 def dist(folder: Path) -> list[Path]:
     """Makes the page in a folder."""
     with in_room() as room:
-        made = modules(room)
+        made = page_module(room)
         version = ran(os.environ.get("RT", "rt"), "version").strip().split("\n")[0]
-        made_page = pages.page(
-            TOP, {kind: pages.packed(it) for kind, it in made.items()}, f"the proved library emtp_page, by {version}"
-        )
+        made_page = pages.page(TOP, pages.packed(made), f"the proved library emtp_page, by {version}")
     folder.mkdir(parents=True, exist_ok=True)
     (folder / "emtp.html").write_text(made_page, encoding="utf-8", newline="\n")
     return [folder / "emtp.html"]
 
 
 def of_parts(file: Path) -> str:
-    """A page of the parts as they stand, with the modules of a page that was made before."""
+    """A page of the parts as they stand, with the module of a page that was made before."""
     made = file.read_text(encoding="utf-8")
-    return pages.page(TOP, pages.modules_of(made), pages.source_of(made))
+    return pages.page(TOP, pages.module_of(made), pages.source_of(made))
 
 
 def anew(file: Path) -> list[Path]:
-    """Makes a page once more of its parts; its modules stay."""
+    """Makes a page once more of its parts; its module stays."""
     made = of_parts(file)
     file.write_text(made, encoding="utf-8", newline="\n")
     return [file]

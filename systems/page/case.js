@@ -19,9 +19,10 @@ BLANK
 BLANK
 `;
 
-// `lineEnd` and `latin` are those of the file that was opened, and of the one that is saved. `given` are the two files of a record
-// that were opened, for an audit.
-const open = { name: "", example: null, latin: false, lineEnd: "\n", given: null };
+// `base` is what was opened: as long as it isn't changed, nothing is kept. `kept` says that the case is in the store, `hash` is the
+// address that it was opened by. `lineEnd` and `latin` are those of the file that was opened, and of the one that is saved, `file`
+// that file where the browser lets the page write to it. `given` are the files of a record that were opened, for an audit.
+const open = { name: "", example: null, kept: false, hash: "", base: {}, latin: false, lineEnd: "\n", file: null, given: null };
 
 // The bytes of a text, as the file that it came from has them.
 function bytesOf(text) {
@@ -30,29 +31,51 @@ function bytesOf(text) {
   return Uint8Array.from(ended, letter => Math.min(letter.codePointAt(0), 255));
 }
 
-// Puts a case into the page: { name, text, what, numbers, times, given }.
+// Puts a case into the page: { name, text, what, numbers, times, given, example, kept, file, hash }. What was changed in the one
+// before is kept first.
 function openCase(it, runs) {
+  if (open.name) store.keep();
   stop();
-  Object.assign(open, { name: it.name, example: it.example ?? null, latin: it.latin ?? false, lineEnd: it.lineEnd ?? "\n", given: it.given ?? null });
+  Object.assign(open, {
+    name: it.name, example: it.example ?? null, kept: it.kept ?? false, hash: it.hash ?? "", latin: it.latin ?? false,
+    lineEnd: it.lineEnd ?? "\n", file: it.file ?? null, given: it.given ?? null,
+  });
   editor.setText(it.text);
   $("times").value = it.times ?? "";
+  open.base = it.base ?? { text: editor.text(), times: $("times").value };
   setCommand(it.what ?? "run", it.numbers);
   results.forget();
   checking.now();
-  listCases();
-  document.title = `${plainName(open.name)} – emtp`;
+  named();
+  store.remember();
   if (runs) run();
 }
 
+// The name of the case is another: in the list, the title and the address.
+function named() {
+  listCases();
+  titled();
+  const hash = open.kept ? `#kept=${encodeURIComponent(open.name)}` : open.example ? `#${open.example}` : open.hash;
+  history.replaceState(null, "", location.href.split("#")[0] + hash);
+}
+
+function titled(state = "") {
+  document.title = `${state}${plainName(open.name)} – emtp`;
+}
+
+const NUMBERS = {
+  first: "scan-first", last: "scan-last", by: "scan-by", trial: "trial-number",
+  line: "vary-line", from: "vary-from", to: "vary-to", values: "vary-values",
+};
+
 function caseNow() {
-  const [first, last, by] = ["scan-first", "scan-last", "scan-by"].map(id => $(id).value);
-  return { name: open.name, text: editor.text(), what: $("what").value, numbers: { first, last, by, trial: $("trial-number").value }, times: $("times").value };
+  const numbers = Object.fromEntries(Object.entries(NUMBERS).map(([name, id]) => [name, $(id).value]));
+  return { name: open.name, text: editor.text(), what: $("what").value, numbers, times: $("times").value };
 }
 
 function setCommand(what, numbers = {}) {
   $("what").value = what;
-  const ids = { first: "scan-first", last: "scan-last", by: "scan-by", trial: "trial-number" };
-  for (const [name, id] of Object.entries(ids)) if (numbers[name]) $(id).value = numbers[name];
+  for (const [name, id] of Object.entries(NUMBERS)) if (numbers?.[name]) $(id).value = numbers[name];
   commandChanged();
 }
 
@@ -65,6 +88,6 @@ function commandChanged() {
 }
 
 function tellAudited() {
-  $("audited").textContent = open.given ? `against ${open.given.cfg.name} and ${open.given.dat.name}`
+  $("audited").textContent = open.given ? `against ${open.given.cfg.name}${open.given.dat ? ` and ${open.given.dat.name}` : ""}`
     : results.record ? "against the record of the last run here" : "opens the cfg and dat of a record first";
 }

@@ -14,10 +14,14 @@ function refusalOf(note, why) {
   const line = Number(found[1]), column = Number(found[2]);
   const lines = why.split("\n"), marked = lines.findIndex(text => /^ *\^ /.test(text));
   const said = { kind: "refused", line: Math.min(line, editor.count()), text: marked < 0 ? lines[0] : lines[marked].trim().slice(2), more: lines.slice(Math.max(marked, 0) + 1).join(" ") };
+  if (!editor.text().trim()) return { ...said, from: 0, to: 0, text: "there are no cards", more: "New begins with a small whole case." };
   if (found[3] === "MissingSection" || found[3] === "TooManyLines") return { ...said, from: 0, to: 0 };
   const card = editor.line(line), field = cards.fieldsAt(editor.kind(line)[1], card, column).find(it => it.from === column);
   if (found[3] === "ByteOutside" || found[3] === "PastColumn80") return { ...said, from: column, to: column };
-  if (field) return { ...said, from: column, to: field.to, text: `${cards.nameOf(field)}: ${said.text}` };
+  if (field) {
+    const takes = cards.describe(field);
+    return { ...said, from: column, to: field.to, text: `${cards.nameOf(field)}: ${said.text}`, more: [takes && `${cards.nameOf(field)} takes: ${takes}.`, said.more].filter(Boolean).join(" ") };
+  }
   return { ...said, from: column, to: column - 1 + Math.max(1, /^\s*\S*/.exec(card.slice(column - 1))[0].length) };
 }
 
@@ -31,7 +35,7 @@ function warningsOf(listing) {
 }
 
 const checking = (() => {
-  const caller = new Caller();
+  const caller = new Caller(), trying = new Caller();
   let timer = 0, found = [], at = -1, checked = null, under = Promise.resolve();
 
   async function now() {
@@ -54,15 +58,50 @@ const checking = (() => {
     editor.setMarks(found);
     tell();
     results.setListing(listing);
+    live.settled(told.status === 0);
+    if (refusal) mend(refusal, text);
   }
+
+  const lineRefused = listing => Number(/^BAD CARD LINE (\d+)/m.exec(listing)?.[1] ?? Infinity);
+
+  // Tries what the refused card may have meant, and offers what the program then reads: the card itself isn't refused any more.
+  async function mend(refusal, text) {
+    const names = [...new Set([...results.names(), ...text.match(/\b[A-Z][A-Z0-9]{0,5}\b/g) ?? []])];
+    const offered = [];
+    for (const fix of Fixes.of(editor.lines(), refusal, names)) {
+      const files = [{ name: "case", bytes: bytesOf(fix.lines.join("\n")) }];
+      const told = await trying.call({ show: true, words: ["case"], files });
+      if (text !== editor.text()) return;
+      const line = told.status === 2 ? lineRefused(Records.text(told.summary ?? told.note)) : Infinity;
+      if (told.fault || line <= refusal.line + (fix.lines.length > editor.count() ? 1 : 0)) continue;
+      offered.push(fix);
+      if (offered.length === 3) break;
+    }
+    refusal.fixes = offered;
+    if (offered.length) tell();
+  }
+
+  const placeOf = it => `Line ${it.line}${it.from ? `, column${it.to > it.from ? "s" : ""} ${it.from}${it.to > it.from ? "-" + it.to : ""}` : ""}`;
+  const sentence = text => /[.!?]$/.test(text) ? text : `${text}.`;
 
   function tell() {
     $("messages").replaceChildren(...found.slice(0, 200).map(it => {
-      const place = `Line ${it.line}${it.from ? `, column${it.to > it.from ? "s" : ""} ${it.from}${it.to > it.from ? "-" + it.to : ""}` : ""}`;
-      const button = make("button", { type: "button", textContent: `${place}: ${it.text}.${it.more ? ` ${it.more}` : ""}` });
+      const button = make("button", { type: "button", textContent: `${placeOf(it)}: ${sentence(it.text)}${it.more ? ` ${it.more}` : ""}` });
       button.onclick = () => editor.goto(it.line, it.from || 1, it.to ? it.to + 1 : 1);
-      return make("li", { class: it.kind }, button);
+      const does = (label, press) => {
+        const made = make("button", { type: "button", textContent: label });
+        made.onclick = press;
+        return made;
+      };
+      const ruler = editor.kind(it.line)[1];
+      const more = [
+        ...(it.fixes ?? []).map(fix => does(`${fix.label[0].toUpperCase()}${fix.label.slice(1)}`, () => editor.change(fix.lines.join("\n")))),
+        ruler && does("Manual", () => manual.show(ruler)),
+      ].filter(Boolean);
+      return make("li", { class: it.kind }, button, more.length ? make("div", { class: "more" }, ...more) : null);
     }));
+    const refused = found.find(it => it.kind === "refused"), said = refused ? `${placeOf(refused)}: ${sentence(refused.text)}` : "";
+    if ($("refused").textContent !== said) $("refused").textContent = said;
   }
 
   const start = () => { under = now(); };
@@ -77,6 +116,12 @@ const checking = (() => {
     async settled() {
       if (checked !== editor.text()) start();
       await Promise.race([under, new Promise(done => setTimeout(done, 1000))]);
+    },
+    // What a command refuses of the cards, though they are read well.
+    also(it) {
+      found = [it, ...found.filter(other => other.kind !== "refused")];
+      editor.setMarks(found);
+      tell();
     },
     next() {
       if (!found.length) return say("Nothing is refused, and nothing is warned of.");

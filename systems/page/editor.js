@@ -2,7 +2,7 @@
 
 const editor = (() => {
   const area = $("cards"), HEIGHT = 20, PAD = 4;
-  let lines = [""], read = [], wide = 8, overwrites = false, leaves = false, timer = 0, frame = 0;
+  let lines = [""], read = [], wide = 8, overwrites = false, leaves = false, frame = 0;
   let marks = new Map(); // by line: [{ kind, from, to, text }]
 
   const text = () => area.value;
@@ -124,8 +124,54 @@ const editor = (() => {
       const columns = it.from === it.to ? `column ${it.from}` : `columns ${it.from}-${it.to}`;
       told.push(make("span", {}, make("b", { textContent: cards.nameOf(it) }), `, ${columns}${cards.describe(it) ? ": " + cards.describe(it) : ""}`));
     }
+    if (cards.isComment(lines[line - 1] ?? "")) told.push(make("span", { class: "comment", textContent: commentAt(line - 1) }));
+    if (ruler) {
+      const button = make("button", { type: "button", textContent: "Manual", title: "The section of this card" });
+      button.onclick = () => manual.show(ruler);
+      told.push(button);
+    }
     if (ruler && !fields.length) told.push(make("span", { class: "place", textContent: column > 80 ? "past column 80 only blanks may stand" : "no field reads this column" }));
     if ($("field").textContent !== told.map(it => it.textContent).join("")) $("field").replaceChildren(...told);
+  }
+
+  // The comment around a line, in one text: it is longer than the cards are wide.
+  function commentAt(row) {
+    let first = row, last = row;
+    while (first > 0 && cards.isComment(lines[first - 1])) first--;
+    while (last + 1 < lines.length && cards.isComment(lines[last + 1])) last++;
+    return lines.slice(first, last + 1).map(line => line.slice(2).trim()).join(" ");
+  }
+
+  // Puts a text into columns of a line, blanks before it where the line is too short.
+  function setColumns(line, from, to, value) {
+    const begin = offset(line, 1), card = lines[line - 1], padded = card.padEnd(from - 1);
+    const made = padded.slice(0, from - 1) + value.padEnd(to - from + 1) + padded.slice(to);
+    replace(begin, begin + card.length, made.trimEnd() === "" ? made : made.trimEnd());
+  }
+
+  // Puts whole lines above a line, and the cursor into the last of them.
+  function insertLines(line, texts) {
+    const at = offset(line, 1);
+    area.focus();
+    replace(at, at, texts.map(text => text + "\n").join(""));
+    goto(line + texts.length - 1, 3);
+  }
+
+  // Names that begin as what stands before the cursor in a field of a name; the next one at each press.
+  let completing = null;
+  function complete() {
+    const { line, column } = place(), field = cards.fieldsAt(read[line - 1]?.[1], lines[line - 1], column).find(it => it.unit === "a name");
+    if (!field) return;
+    if (!completing || completing.line !== line || completing.from !== field.from || completing.text !== lines[line - 1]) {
+      const start = lines[line - 1].slice(field.from - 1, field.to).trim();
+      const names = results.names().filter(it => it.toUpperCase().startsWith(start.toUpperCase()) && it !== start);
+      completing = { line, from: field.from, names, at: -1 };
+    }
+    if (!completing.names.length) return say("No name of this case begins so.");
+    completing.at = (completing.at + 1) % completing.names.length;
+    setColumns(line, field.from, field.to, completing.names[completing.at].slice(0, field.to - field.from + 1));
+    goto(line, field.from + completing.names[completing.at].length);
+    completing.text = lines[line - 1];
   }
 
   // Puts text in place of a part, so that it can be undone.
@@ -154,14 +200,15 @@ const editor = (() => {
   area.addEventListener("input", () => {
     changed();
     checking.soon();
-    clearTimeout(timer);
-    timer = setTimeout(store.keep, 600);
+    store.soon();
+    results.aged();
   });
   area.addEventListener("scroll", redraw);
   document.addEventListener("selectionchange", () => {
     if (document.activeElement !== area) return;
     redraw();
     results.follow(place().line);
+    form.follow();
   });
   area.addEventListener("blur", () => { leaves = false; });
   area.addEventListener("keydown", event => {
@@ -169,6 +216,9 @@ const editor = (() => {
     else if (event.key === "Tab" && !leaves && !event.ctrlKey && !event.altKey && !event.metaKey) {
       event.preventDefault();
       nextField(event.shiftKey);
+    } else if (event.key === " " && event.ctrlKey) {
+      event.preventDefault();
+      complete();
     } else if (event.key === "Insert" && !event.shiftKey && !event.ctrlKey) {
       overwrites = !overwrites;
       redraw();
@@ -183,12 +233,19 @@ const editor = (() => {
   }).observe($("editor"));
 
   return {
-    text, setText, goto, place, redraw,
+    text, setText, goto, place, redraw, setColumns, insertLines,
+    lines: () => lines,
+    // Puts another text in place of this one, so that it can be undone.
+    change(value) {
+      area.focus();
+      replace(0, area.value.length, value);
+    },
     kind: line => read[line - 1] ?? ["", null],
     line: line => lines[line - 1] ?? "",
     count: () => lines.length,
     setMarks(found) {
       marks = new Map();
+      area.setAttribute("aria-invalid", String(found.some(it => it.kind === "refused")));
       for (const it of found) marks.set(it.line, [...(marks.get(it.line) ?? []), it]);
       redraw();
     },

@@ -2,19 +2,10 @@
 
 const program = {
   module: null,
-  kind: "",
-  // The first module that this browser takes, of these.
-  async load(kinds = ["module32", "module64"]) {
-    for (const kind of kinds) {
-      const packed = $(kind).textContent.trim();
-      if (!packed) continue;
-      const bytes = await through(new DecompressionStream("gzip"), bytesOfBase64(packed));
-      if (!WebAssembly.validate(bytes)) continue;
-      program.module = await WebAssembly.compile(bytes);
-      program.kind = kind;
-      return;
-    }
-    throw new Error("This browser takes none of the program's modules: it has no WebAssembly, or an old one.");
+  async load() {
+    const bytes = await through(new DecompressionStream("gzip"), bytesOfBase64($("module32").textContent));
+    if (!WebAssembly.validate(bytes)) throw new Error("This browser doesn't take the program's module: it has no WebAssembly, or an old one.");
+    program.module = await WebAssembly.compile(bytes);
   },
   url: null,
   start() {
@@ -60,5 +51,37 @@ class Caller {
   stop() {
     this.worker?.terminate();
     this.worker = this.done = null;
+  }
+}
+
+// Makes many calls, in as many workers as there are processors; `took(result, place)` is called for each as it ends. `stop` ends all,
+// and their promise says so.
+class Callers {
+  constructor() {
+    this.workers = [];
+  }
+
+  async all(asked, took) {
+    const found = [];
+    let next = 0, stopped = false;
+    const count = Math.min(asked.length, navigator.hardwareConcurrency || 2);
+    this.workers = Array.from({ length: count }, () => new Caller());
+    const ended = new Promise(done => { this.ends = () => { stopped = true; done(); }; });
+    const work = async caller => {
+      while (next < asked.length && !stopped) {
+        const place = next++;
+        found[place] = await caller.call(asked[place]());
+        took?.(found[place], place);
+      }
+    };
+    await Promise.race([Promise.all(this.workers.map(work)), ended]);
+    for (const it of this.workers) it.stop();
+    this.workers = [];
+    return stopped ? null : found;
+  }
+
+  stop() {
+    for (const it of this.workers) it.stop();
+    this.ends?.();
   }
 }
