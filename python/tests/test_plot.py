@@ -1,18 +1,21 @@
 """plot: what it prints, how it shares curves among panes, and what a page holds."""
 
+import base64
 import contextlib
 import importlib.util
 import io
 import json
 import math
 import os
+import pathlib
+import re
 import struct
 import unittest
 from unittest import mock
 
 import numpy as np
 
-from wurdanei import drawing, page
+from wurdanei import drawing, page, summary
 from wurdanei.__main__ import main
 from wurdanei.drawing import Curve
 from wurdanei.spectrum import peaks_of, spectrum_of
@@ -20,7 +23,6 @@ from wurdanei.spectrum import peaks_of, spectrum_of
 from .recorder import Wave, bay, current, voltage
 from .test_record import Folder
 
-PAGES = importlib.util.find_spec("plotly") is not None
 PICTURES = importlib.util.find_spec("matplotlib") is not None
 CFG = (
     b"EMTP,CASE,1999\r\n5,4A,1D\r\n1,V A,,,V,0.5,0,0,-32767,32767,1,1,P\r\n2,I A-B,,,A,0.001,0,0,-32767,32767,1,1,P\r\n"
@@ -36,13 +38,21 @@ BATCH = (
 
 
 def page_of(path):
-    """Traces and layout of a page, as the browser gets them."""
+    """What a page draws, unpacked: its curves and bars in order, each with the place of its pane, its picture, and its text."""
     with open(path, encoding="utf-8") as file:
         text = file.read()
-    at = text.index("[", text.rindex("Plotly.newPlot("))
-    traces, end = json.JSONDecoder().raw_decode(text, at)
-    layout, _ = json.JSONDecoder().raw_decode(text, text.index("{", end))
-    return traces, layout
+    drawing = json.loads(re.search(r'<script type="application/json" id="drawing">(.*?)</script>', text, re.S)[1])
+    numbers = lambda packed, kind: np.frombuffer(base64.b64decode(packed), kind)
+    xs = [
+        numbers(it, "<f8") if isinstance(it, str) else it["first"] + it["step"] * np.arange(it["count"])
+        for it in drawing["xs"]
+    ]
+    items, panes = [], drawing["picture"]["panes"]
+    for place, pane in enumerate(panes):
+        for it in pane.get("curves", pane.get("bars")):
+            values = numbers(it.get("y") or it["values"], "<f4").astype(float)
+            items.append({**it, "pane": place, "x": xs[it["x"]], "y": values, "bar": "values" in it})
+    return items, drawing["picture"], text
 
 
 class Plot(Folder):
@@ -73,7 +83,7 @@ class Plot(Folder):
             [
                 "V A: least -2 kV at 0.2 ms, greatest 4 kV at 0.1 ms",
                 "I A-B: least -0.005 A at 0.1 ms, greatest 0.012 A at 0.2 ms",
-                "T TRIP: least 0 1 at 0 ms, greatest 1 1 at 0.1 ms",
+                "T TRIP: least 0 at 0 ms, greatest 1 at 0.1 ms",
                 "I A-B.2: least -18 A at 0.1 ms, greatest 16 A at 0.2 ms",
                 "r.cfg: names that stand more than once have .2, .3 behind the later ones: I A-B",
                 f"drawn: {source[:-4]}.png",
@@ -83,31 +93,39 @@ class Plot(Folder):
         with open(source[:-4] + ".png", "rb") as file:
             head = file.read(24)
         self.assertEqual(head[:8], b"\x89PNG\r\n\x1a\n")
-        self.assertEqual(struct.unpack(">I", head[16:20])[0], 720)  # 9 inches
+        self.assertAlmostEqual(struct.unpack(">I", head[16:20])[0], 9 * 120, delta=120)  # about 9 inches
         os.remove(source[:-4] + ".png")
         self.assertIn("V A: least -2 kV", self.run_words(source, self.out("o.svg"), "--only", "V A,S*"))
         self.assertIn(b"<svg", open(self.out("o.svg"), "rb").read())
 
-    @unittest.skipUnless(PAGES, "plotly isn't there")
     def test_page(self):
         source = self.files(CFG, DAT)
         self.run_words(source, self.out("o.html"))
-        traces, layout = page_of(self.out("o.html"))
-        shown = {trace["name"]: trace for trace in traces}
+        items, picture, text = page_of(self.out("o.html"))
+        shown = {it["name"]: it for it in items}
         self.assertEqual(list(shown), ["V A", "I A-B.2", "I A-B", "T TRIP", "S A-B"])
-        self.assertEqual(shown["V A"]["y"], [0.0, 4.0, -2.0, 0.001])
-        self.assertEqual((shown["V A"]["x0"], round(shown["V A"]["dx"], 12)), (0.0, 0.1))
+        np.testing.assert_allclose(shown["V A"]["y"], [0.0, 4.0, -2.0, 0.001], rtol=1e-7)
+        np.testing.assert_allclose(shown["V A"]["x"], [0.0, 0.1, 0.2, 0.3], rtol=1e-12)
         self.assertEqual(
-            len({shown[name].get("yaxis") for name in shown}), 4
-        )  # V, A, less than a twentieth of it, bars
-        self.assertEqual((shown["T TRIP"]["base"], shown["T TRIP"]["x"]), ([0.1], [shown["T TRIP"]["x"][0]]))
-        self.assertAlmostEqual(shown["T TRIP"]["x"][0], 0.2)
-        self.assertEqual(shown["S A-B"]["base"], [0.0, 0.3])
-        self.assertIn("have .2, .3 behind the later ones: I A-B", layout["title"]["text"])
-        with open(self.out("o.html"), encoding="utf-8") as file:
-            self.assertNotRegex(file.read(), r'<(?:script|link|img)[^>]+(?:src|href)="http')
+            [pane.get("unit") for pane in picture["panes"]], ["kV", "A", "A", None]
+        )  # less than a twentieth, bars
+        self.assertEqual([it["color"] for it in items], [0, 1, 2, 3, 4])
+        np.testing.assert_allclose(shown["T TRIP"]["x"], [0.0, 0.1, 0.3, 0.3])
+        self.assertEqual(shown["T TRIP"]["y"].tolist(), [0.0, 1.0, 0.0, 0.0])
+        np.testing.assert_allclose(shown["S A-B"]["x"], [0.0, 0.0, 0.1, 0.3, 0.3, 0.3])
+        self.assertIn("have .2, .3 behind the later ones: I A-B", text)
+        self.assertNotRegex(text, r'<(?:script|link|img)[^>]+(?:src|href)="http')
+        for words in ("<title>r.cfg</title>", '<html lang="en">', 'name="viewport"', "connect-src 'none'"):
+            self.assertIn(words, text)
 
-    @unittest.skipUnless(PAGES, "plotly isn't there")
+    def test_page_is_small(self):
+        count = 1_401
+        cfg = CFG[: CFG.index(b"2,I A-B")] + CFG[CFG.index(b"60\r\n") :]
+        cfg = cfg.replace(b"5,4A,1D", b"1,1A,0D").replace(b"0,4\r\n", b"0,%d\r\n" % count)
+        dat = b"".join(b"%d,%d,%d\r\n" % (at + 1, at, at % 700 - 350) for at in range(count))
+        self.run_words(self.files(cfg, dat + b"\x1a"), self.out("o.html"))
+        self.assertLessEqual(os.path.getsize(self.out("o.html")), 200_000)
+
     def test_all_samples_or_told(self):
         count = 7_000
         cfg = CFG[: CFG.index(b"2,I A-B")] + CFG[CFG.index(b"60\r\n") :]
@@ -122,20 +140,19 @@ class Plot(Folder):
         few.start()
         self.addCleanup(few.stop)
         self.run_words(source, self.out("o.html"))
-        traces, layout = page_of(self.out("o.html"))
-        self.assertIn("thinned: of each 4 samples the least and the greatest are drawn; --all", layout["title"]["text"])
-        self.assertLessEqual(len(traces[0]["y"]), 6_000)
-        self.assertEqual((max(traces[0]["y"]), min(traces[0]["y"])), (4.5, -4.5))
-        self.assertEqual(traces[0]["x"][traces[0]["y"].index(4.5)], 123.4)
+        items, picture, text = page_of(self.out("o.html"))
+        self.assertIn("<li>thinned: of each 4 samples the least and the greatest are drawn; --all", text)
+        self.assertLessEqual(len(items[0]["y"]), 6_000)
+        self.assertEqual((max(items[0]["y"]), min(items[0]["y"])), (4.5, -4.5))
+        self.assertAlmostEqual(items[0]["x"][items[0]["y"].argmax()], 123.4)
         self.run_words(source, self.out("o.html"), "--all")
-        traces, layout = page_of(self.out("o.html"))
-        self.assertEqual(len(traces[0]["y"]), count)
-        self.assertNotIn("thinned", layout["title"]["text"])
+        items, picture, text = page_of(self.out("o.html"))
+        self.assertEqual(len(items[0]["y"]), count)
+        self.assertFalse("<li>thinned" in text)
         self.run_words(source, self.out("o.html"), "--from", "0.1", "--to", "0.2")
-        traces, _ = page_of(self.out("o.html"))
-        self.assertEqual((len(traces[0]["y"]), traces[0]["x0"]), (1_001, 100.0))
+        items, picture, text = page_of(self.out("o.html"))
+        self.assertEqual((len(items[0]["y"]), round(items[0]["x"][0], 9)), (1_001, 100.0))
 
-    @unittest.skipUnless(PAGES, "plotly isn't there")
     def test_two_records(self):
         first = bay().write(self.folder, "a")
         waves = [Wave("VA", "kV", lambda time: voltage(time) / 1e3, 110.0, ratio=(1000.0, 1.0), scaling="S", skew=25.0)]
@@ -149,36 +166,34 @@ class Plot(Folder):
             "drawn at the times of their skew: VA (b)\n",
         ):
             self.assertIn(words, said)
-        traces, layout = page_of(self.out("o.html"))
-        shown = {trace["name"]: trace for trace in traces}
+        items, picture, text = page_of(self.out("o.html"))
+        shown = {it["name"]: it for it in items}
         self.assertEqual(list(shown), ["VA", "VA (b)", "IA", "TRIP", "52A"])
-        self.assertEqual(shown["VA"]["yaxis"], shown["VA (b)"]["yaxis"])
-        self.assertAlmostEqual(shown["VA (b)"]["x0"], -40.0 + 0.025)
-        self.assertEqual(shown["VA (b)"]["y"][19:26].count(None), 5)
+        self.assertEqual(shown["VA"]["pane"], shown["VA (b)"]["pane"])
+        self.assertAlmostEqual(shown["VA (b)"]["x"][0], -40.0 + 0.025)
+        self.assertEqual(int(np.isnan(shown["VA (b)"]["y"][19:26]).sum()), 5)
         self.assertAlmostEqual(shown["VA (b)"]["y"][30], voltage(30 / 4800 + 25e-6) / 1e3, delta=0.005)
         self.assertAlmostEqual(shown["VA"]["y"][30], voltage(30 / 4800) / 1e3, delta=0.005)
-        self.assertIn("moved by -0.04 s", layout["title"]["text"])
+        self.assertIn("moved by -0.04 s", text)
         said = self.run_words(first, "--with", second, "--only", "V*,NONE", self.out("n.html"), status=2)
         self.assertIn("b.cff has no channel 'NONE'; it has VA, IA, TRIP, 52A, VA", said)
 
-    @unittest.skipUnless(PAGES, "plotly isn't there")
     def test_one_over_another(self):
         source = bay().write(self.folder)
         self.run_words(source, self.out("o.html"), "--xy", "VA", "IA", "--from", "0.01", "--to", "0.02")
-        traces, layout = page_of(self.out("o.html"))
-        self.assertEqual((len(traces), len(traces[0]["y"])), (1, 49))
-        self.assertAlmostEqual(traces[0]["x"][3], voltage(51 / 4800) / 1e3, delta=0.005)
-        self.assertAlmostEqual(traces[0]["y"][3], current(51 / 4800), delta=0.2)
-        self.assertEqual((layout["xaxis"]["title"]["text"], layout["yaxis"]["title"]["text"]), ("VA, kV", "IA, A"))
+        items, picture, text = page_of(self.out("o.html"))
+        self.assertEqual((len(items), len(items[0]["y"])), (1, 49))
+        self.assertAlmostEqual(items[0]["x"][3], voltage(51 / 4800) / 1e3, delta=0.005)
+        self.assertAlmostEqual(items[0]["y"][3], current(51 / 4800), delta=0.2)
+        self.assertEqual(picture["axes"][0]["label"], "VA, kV")
+        self.assertEqual(picture["panes"][0]["unit"], "IA, A")
 
-    @unittest.skipUnless(PAGES, "plotly isn't there")
     def test_names_stand_as_they_are(self):
         source = self.files(CFG.replace(b"1,V A", b"1,<b>$x&_y"), DAT)
         self.run_words(source, self.out("o.html"))
-        self.assertEqual(page_of(self.out("o.html"))[0][0]["name"], "&lt;b&gt;$x&amp;_y")
+        self.assertEqual(page_of(self.out("o.html"))[0][0]["name"], "<b>$x&_y")
         self.run_words(source, self.out("o.png"))
 
-    @unittest.skipUnless(PAGES, "plotly isn't there")
     def test_spectrum(self):
         wave = (
             lambda time: 3.0 * math.cos(2 * math.pi * 53.7 * time + 1)
@@ -192,31 +207,31 @@ class Plot(Folder):
         for words, hertz, crest in zip(found, (53.7, 411.1), (3.0, 0.4)):
             self.assertAlmostEqual(float(words[1]), hertz, delta=0.1)
             self.assertAlmostEqual(float(words[4]), crest, delta=0.01 * crest)
-        traces, _ = page_of(self.out("o.html"))
-        self.assertEqual(len(traces[0]["y"]), 241)
+        items, picture, text = page_of(self.out("o.html"))
+        self.assertEqual(len(items[0]["y"]), 241)
 
-    @unittest.skipUnless(PAGES and PICTURES, "plotly or matplotlib isn't there")
+    @unittest.skipUnless(PICTURES, "matplotlib isn't there")
     def test_scan(self):
         source = self.text("scan", SCAN)
         said = self.run_words(source, self.out("o.html"))
         self.assertEqual(
             said, f"resonance at 60 Hz: 50 ohm, 53.1301 degrees\n80 Hz: REFUSED LINE 3\ndrawn: {self.out('o.html')}\n"
         )
-        traces, _ = page_of(self.out("o.html"))
-        self.assertEqual(traces[0]["y"], [2.236068, 50.0, 5.0, None, 1.0])
-        self.assertEqual((traces[1]["x"], traces[1]["y"], traces[1]["text"]), ([60.0], [50.0], ["60 Hz"]))
-        self.assertEqual(traces[2]["y"][1:], [53.1301, -53.1301, None, 0.0])
+        items, picture, text = page_of(self.out("o.html"))
+        np.testing.assert_allclose(items[0]["y"], [2.236068, 50.0, 5.0, math.nan, 1.0], rtol=1e-6)
+        self.assertEqual(picture["panes"][0]["marks"], [{"x": 60.0, "y": 50.0, "text": "60 Hz"}])
+        np.testing.assert_allclose(items[1]["y"][1:], [53.1301, -53.1301, math.nan, 0.0], rtol=1e-6)
         self.assertIn("drawn: " + self.out("scan.png"), self.run_words(source))
 
-    @unittest.skipUnless(PAGES and PICTURES, "plotly or matplotlib isn't there")
+    @unittest.skipUnless(PICTURES, "matplotlib isn't there")
     def test_batch(self):
         source = self.text("peaks", BATCH)
         said = self.run_words(source, self.out("o.html"))
         self.assertIn("row 3 ENDED STEP 4 RANGE BUS\n", said)
         self.assertIn("channel 1: greatest 125 in row 2, at most 2 % of the rows exceed 125, half of them 75\n", said)
-        traces, _ = page_of(self.out("o.html"))
-        self.assertEqual(traces[0]["x"], [0.0, 75.0, 125.0])
-        self.assertEqual([round(share) for share in traces[0]["y"]], [33, 67, 100])
+        items, picture, text = page_of(self.out("o.html"))
+        self.assertEqual(items[0]["x"].tolist(), [0.0, 75.0, 125.0])
+        self.assertEqual([round(share) for share in items[0]["y"]], [33, 67, 100])
         cfg = CFG.replace(b"5,4A,1D", b"3,2A,1D")
         cfg = cfg[: cfg.index(b"3,T TRIP")] + cfg[cfg.index(b"1,S A-B") :]
         with open(self.out("case.cfg"), "wb") as file:
@@ -277,22 +292,42 @@ class Sharing(unittest.TestCase):
         self.assertEqual(panes, [("kV", ["a", "d", "e"]), ("kV", ["c"]), ("V", ["f"]), ("A", ["b"])])
         self.assertEqual(list(curves[0].y), [0.0, 200.0])
 
-    def test_units(self):
-        self.assertEqual(drawing.base_unit("kV"), (1e3, "V"))
-        self.assertEqual(drawing.base_unit("mA"), (1e-3, "A"))
-        self.assertEqual(drawing.base_unit("PU"), (1.0, "1"))
-        self.assertEqual(drawing.base_unit("degrees"), (1.0, "degrees"))
+    def test_rules(self):
+        """The rows that the page's own rules are held to as well (systems/units)."""
+        rows = json.loads((pathlib.Path(__file__).parent / "drawn.json").read_text(encoding="utf-8"))
+        curves = lambda lists: [self.curve(str(at), "V", values) for at, values in enumerate(lists)]
+        sizes = lambda those: [self.curve(str(at), "V", [0, size]) for at, size in enumerate(those)]
+        places = lambda groups: [[int(curve.name) for curve in group] for group in groups]
+        calls = {
+            "base_unit": lambda unit: list(drawing.base_unit(unit)),
+            "shown_unit": lambda given: list(drawing.shown_unit(*given)),
+            "by_magnitude": lambda given: places(drawing.by_magnitude(sizes(given))),
+            "covering": lambda given: drawing.covering(curves([given[0]])[0], curves(given[1])),
+            "is_two_valued": lambda given: drawing.is_two_valued(np.array(given[0], float), given[1]),
+            "time_unit": lambda span: list(drawing.time_unit(span)),
+            "not_exceeded": lambda given: summary.two_percent(np.array(given, float)),
+        }
+        for name, call in calls.items():
+            for given, wanted in rows[name]:
+                with self.subTest(f"{name} {given}"):
+                    self.assertEqual(call(given), wanted)
+        for row in rows["panes"]:
+            based = [(name, *drawing.base_unit(unit), values) for name, unit, values in row["channels"]]
+            bars = [name for name, _, unit, values in based if drawing.is_two_valued(np.array(values, float), unit)]
+            made = drawing.panes_of(
+                [
+                    self.curve(name, unit, factor * np.array(values))
+                    for name, factor, unit, values in based
+                    if name not in bars
+                ]
+            )
+            found = [[it.y_label, [[curve.name, curve.style, curve.y.tolist()] for curve in it.curves]] for it in made]
+            self.assertEqual((bars, found), (row["bars"], row["panes"]))
 
     def test_curves_over_each_other_differ(self):
         same = [self.curve("a", "V", [1, 2, 3]), self.curve("b", "V", [1, 2, 3]), self.curve("c", "V", [3, 0, 1])]
         (pane,) = drawing.panes_of(same)
         self.assertEqual([curve.style for curve in pane.curves], [0, 1, 0])
-
-    def test_two_valued(self):
-        for values, unit, wanted in (
-            ([0, 1, 1], "PU", True), ([0, 0], "PU", True), ([0, 1], "V", False), ([0, 0.5], "PU", False), ([0, math.nan], "", False)
-        ):  # fmt: skip
-            self.assertEqual(drawing.is_two_valued(np.array(values, float), unit), wanted)
 
     def test_spans(self):
         times = np.array([0.0, 1.0, 2.0, 3.0, 4.0])

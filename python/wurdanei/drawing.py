@@ -1,21 +1,27 @@
-"""What a picture and a page have in common: panes with curves, bars, and what is said above them."""
+"""What a picture and a page have in common: panes with curves, bars, and what is said above them.
+
+How curves are shared among panes is said by the numbers of web/rules.json, which the plot of the page goes by too.
+"""
 
 from __future__ import annotations
 
 import io
+import json
 import re
 import textwrap
 from dataclasses import dataclass, field
+from importlib import resources
+from typing import Any
 
 import numpy as np
 
 from .configuration import RecordError
 
-STYLES = 4  # kinds of lines, so that curves that lie over each other are told apart
-FLAT = 20.0  # a curve so many times smaller than another has a pane of its own
-MOST_PANES = 4  # of one unit
+RULES: dict[str, Any] = json.loads(
+    resources.files(__package__).joinpath("web", "rules.json").read_text(encoding="utf-8")
+)
+STYLES = RULES["styles"]  # kinds of lines, so that curves that lie over each other are told apart
 MOST_SPANS = 5_000  # of one bar
-PREFIXES = {"": 1.0, "u": 1e-6, "µ": 1e-6, "m": 1e-3, "k": 1e3, "K": 1e3, "M": 1e6, "G": 1e9}
 
 
 @dataclass
@@ -28,6 +34,7 @@ class Curve:
     unit: str = ""  # of y
     style: int = 0  # kind of line, below `STYLES`
     stepped: bool = False  # y holds from its x to the next
+    color: int | None = None  # its place among the colours; None: the next one
 
 
 @dataclass
@@ -40,6 +47,16 @@ class Mark:
 
 
 @dataclass
+class Band:
+    """What lies between two curves: x, low and high of shape (points,), float64, without gaps."""
+
+    x: np.ndarray
+    low: np.ndarray
+    high: np.ndarray
+    color: int  # its place among the colours
+
+
+@dataclass
 class Pane:
     """Curves over one pair of axes, which have their names."""
 
@@ -49,6 +66,9 @@ class Pane:
     height: float = 3.0  # inches of a picture
     marks: list[Mark] = field(default_factory=list)
     limits: list[tuple[float, str]] = field(default_factory=list)  # vertical lines, with their texts
+    bands: list[Band] = field(default_factory=list)
+    title: str = ""  # what is said over it
+    view: tuple[float, float] | None = None  # the part of the x that is seen at first
 
 
 @dataclass
@@ -97,19 +117,25 @@ class Drawing:
 
 
 def base_unit(unit: str) -> tuple[float, str]:
-    """How many volts or amperes a unit of a channel has, and V or A; of another unit 1 and the unit, PU as 1."""
+    """How many volts or amperes a unit of a channel has, and V or A; of another unit 1 and the unit, none of PU."""
     match = re.fullmatch(r"([uµmkKMG]?)([VA])", unit)
     if match:
-        return PREFIXES[match[1]], match[2]
-    return 1.0, "1" if unit.upper() == "PU" else unit
+        return RULES["prefixes"][match[1]], match[2]
+    return 1.0, "" if unit.upper() == "PU" else unit
 
 
 def shown_unit(unit: str, most: float) -> tuple[float, str]:
     """By what values in V or A are divided where their greatest magnitude is `most`, and the unit that they have
     then."""
-    if unit in ("V", "A") and most >= (1e3 if unit == "V" else 1e4):
+    if most >= RULES["kilo"].get(unit, np.inf):
         return 1e3, "k" + unit
     return 1.0, unit
+
+
+def time_unit(span: float) -> tuple[str, float]:
+    """The unit of times over so many seconds, and the seconds that it has."""
+    found = next(it for it in RULES["times"] if not span >= it.get("below", np.inf))
+    return found["unit"], found["seconds"]
 
 
 def greatest(curves: list[Curve]) -> float:
@@ -135,7 +161,7 @@ def by_magnitude(curves: list[Curve]) -> list[list[Curve]]:
     sizes = [greatest([curve]) for curve in curves]
     ranks, rank, most = [0] * len(curves), 0, max(sizes, default=0.0)
     for place in sorted(range(len(curves)), key=lambda place: -sizes[place]):
-        if 0 < sizes[place] < most / FLAT and rank < MOST_PANES - 1:
+        if 0 < sizes[place] < most / RULES["flat"] and rank < RULES["most_panes"] - 1:
             rank, most = rank + 1, sizes[place]
         ranks[place] = rank if sizes[place] else 0
     groups = [[curve for curve, own in zip(curves, ranks) if own == wanted] for wanted in range(rank + 1)]
@@ -147,21 +173,21 @@ def covering(curve: Curve, others: list[Curve]) -> int:
     them."""
     if not len(curve.x):
         return 0
-    spreads = [np.nanmax(it.y) - np.nanmin(it.y) for it in [curve, *others] if np.isfinite(it.y).any()]
-    near = 0.005 * (max(spreads, default=0.0) or 1.0)
-    count = 0
+    step = max(1, len(curve.x) // RULES["compared"])
+    x, y, beside = curve.x[::step], curve.y[::step], []
     for other in others:
         if len(other.x):
             same = len(other.x) == len(curve.x) and np.array_equal(other.x, curve.x)
-            beside = other.y if same else np.interp(curve.x, other.x, other.y, np.nan, np.nan)
-            count += np.count_nonzero(np.abs(curve.y - beside) <= near) >= 0.3 * len(curve.x)
-    return count
+            beside.append(other.y[::step] if same else np.interp(x, other.x, other.y, np.nan, np.nan))
+    spreads = [np.nanmax(it) - np.nanmin(it) for it in [y, *beside] if np.isfinite(it).any()]
+    near = RULES["near"] * (max(spreads, default=0.0) or 1.0)
+    return sum(int(np.count_nonzero(np.abs(y - it) <= near) >= RULES["overlap"] * len(x)) for it in beside)
 
 
 def is_two_valued(values: np.ndarray, unit: str) -> bool:
     """A variable without unit that is 0 or 1 throughout, which is drawn as a bar."""
-    near = np.minimum(np.abs(values), np.abs(values - 1)) < 1e-6
-    return base_unit(unit)[1] in ("", "1") and len(values) > 0 and bool(near.all())
+    near = np.minimum(np.abs(values), np.abs(values - 1)) < RULES["two_valued"]
+    return base_unit(unit)[1] == "" and len(values) > 0 and bool(near.all())
 
 
 def spans_of(times: np.ndarray, states: np.ndarray) -> list[tuple[float, float]]:

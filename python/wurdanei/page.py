@@ -1,72 +1,76 @@
-"""Writes a drawing as one page that stands alone, by plotly: zoom, values under the cursor, a legend that hides and
-shows."""
+"""Writes a drawing as one page that stands alone: the plot of emtp's own page, with its numbers packed. It has zoom, values
+under the cursor, a mark, and a table of the channels that hides and shows them."""
 
 from __future__ import annotations
 
+import base64
+import hashlib
 import html
-import math
-import sys
+import json
+import os
+from importlib import resources
 from typing import Any
 
 import numpy as np
 
-from .drawing import Curve, Drawing, Pane, folded, needs, number, thinned
+from .drawing import RULES, Band, Curve, Drawing, Pane, needs, thinned
 from .resample import even_spacing
 
-DASHES = ["solid", "dash", "dashdot", "dot"]
-WIDTH = 160  # characters of a line above the panes
 POINTS = 600_000  # of all curves of a page, where not all are asked for
+SCRIPTS = ("rules.js", "plot.js", "panel.js", "page.js")
+STYLES = ("plot.css", "page.css")
+KEYS = (
+    "Drag to zoom, double click for all; arrow keys, + - 0, m for a mark; the wheel over the numbers zooms the values; "
+    "a name in the table draws that channel alone."
+)
 
 
 def write(drawing: Drawing, path: str, whole: bool) -> None:
     """Writes the page, with all points where `whole`; else as many as a browser takes, and its head says so."""
-    try:
-        from plotly import graph_objects, subplots
-    except ImportError:
-        raise needs("a page", "plotly", sys.executable) from None
-    heights = drawing.heights
-    figure = subplots.make_subplots(
-        rows=len(heights) or 1,
-        cols=1,
-        shared_xaxes=drawing.joint,
-        vertical_spacing=(0.04 if drawing.joint else 0.12) * 5 / max(5, len(heights) + 1),
-        row_heights=heights or None,
-    )
-    notes = list(drawing.notes)
     curves = [curve for pane in drawing.panes for curve in pane.curves]
-    most = 10**12 if whole else share_of([len(curve.y) for curve in curves])
-    thinnest = 1
-    for row, pane in enumerate(drawing.panes, 1):
-        for curve in pane.curves:
-            trace, size = trace_of(graph_objects, curve, most)
-            thinnest = max(thinnest, size)
-            figure.add_trace(trace, row=row, col=1)
-        add_marks(graph_objects, figure, pane, row)
-        figure.update_yaxes(title_text=untagged(pane.y_label), row=row, col=1)
-        if pane.x_label:
-            figure.update_xaxes(title_text=untagged(pane.x_label), row=row, col=1)
-    if thinnest > 1:
+    packed = Packed(10**12 if whole else share_of([len(curve.y) for curve in curves]))
+    picture = packed.picture(drawing)
+    notes = list(drawing.notes)
+    if packed.thinnest > 1:
         notes.append(
-            f"thinned: of each {thinnest} samples the least and the greatest are drawn; --all puts all of them into "
-            "the page, --from and --to take a piece"
+            f"thinned: of each {packed.thinnest} samples the least and the greatest are drawn; --all puts all of them "
+            "into the page, --from and --to take a piece"
         )
-    add_bars(graph_objects, figure, drawing)
-    if drawing.joint:
-        figure.update_xaxes(title_text=untagged(drawing.x_label), row=len(heights) or 1, col=1)
-        figure.update_xaxes(range=list(drawing.span))
-        figure.update_layout(hovermode="x unified")
-    notes = folded(notes, WIDTH)
-    head = "<br>".join([untagged(drawing.title), *(f"<sub>{untagged(note)}</sub>" for note in notes)])
-    space = 22 * len(notes)
-    figure.update_layout(
-        title={"text": head, "y": 1.0, "yref": "container", "yanchor": "top", "pad": {"t": 14}},
-        height=160 + 90 * sum(heights) + space,
-        template="plotly_white",
-        margin={"t": 60 + space, "r": 20},
-        barmode="overlay",
-        showlegend=any(curve.name for curve in curves) or bool(drawing.bars),
+    name = os.path.splitext(os.path.basename(path))[0]
+    told = json.dumps({"name": name, "xs": packed.xs, "picture": picture}, ensure_ascii=False, allow_nan=False)
+    style = "".join(part(name) for name in STYLES)
+    rules = json.dumps(RULES, ensure_ascii=False)
+    script = f'"use strict";\nconst RULES = {rules};\n' + "\n".join(part(name) for name in SCRIPTS)
+    listed = "".join(f"<li>{untagged(note)}</li>" for note in notes)
+    policy = (
+        f"default-src 'none'; script-src {sum_of(script)}; style-src {sum_of(style)}; img-src data: blob:; "
+        "connect-src 'none'; form-action 'none'; base-uri 'none'"
     )
-    figure.write_html(path, include_plotlyjs=True, full_html=True, config={"displaylogo": False, "responsive": True})
+    with open(path, "w", encoding="utf-8", newline="\n") as file:
+        file.write(
+            '<!doctype html>\n<html lang="en">\n<head>\n<meta charset="utf-8">\n'
+            '<meta name="viewport" content="width=device-width, initial-scale=1">\n'
+            f'<meta http-equiv="Content-Security-Policy" content="{policy}">\n'
+            f'<title>{untagged(drawing.title)}</title>\n<link rel="icon" href="data:,">\n'
+            f"<style>{style}</style>\n</head>\n<body>\n"
+            f'<h1>{untagged(drawing.title)}</h1>\n{f"<ul class=notes>{listed}</ul>" if listed else ""}\n'
+            f'<div id="panel"></div>\n<p class="hint">{KEYS}</p>\n'
+            f'<script type="application/json" id="drawing">{told.replace("</", "<" + chr(92) + "/")}</script>\n'
+            f"<script>{script}</script>\n</body>\n</html>\n"
+        )
+
+
+def part(name: str) -> str:
+    """A file of the plot."""
+    try:
+        return resources.files(__package__).joinpath("web", name).read_text(encoding="utf-8")
+    except OSError:
+        raise needs("a page", f"wurdanei/web/{name}", "the package") from None
+
+
+def sum_of(text: str) -> str:
+    """The sum by which a page's policy lets a script or a style through."""
+    return f"'sha256-{base64.b64encode(hashlib.sha256(text.encode()).digest()).decode()}'"
 
 
 def share_of(sizes: list[int]) -> int:
@@ -77,84 +81,109 @@ def share_of(sizes: list[int]) -> int:
     return left // len(rest) if rest else POINTS
 
 
-def trace_of(objects: Any, curve: Curve, most: int) -> tuple[Any, int]:
-    """The curve as plotly has it, and of how many samples each two are drawn; the x of an even grid is two numbers."""
-    x, y, size = thinned(curve, most)
-    spacing = even_spacing(x) if size == 1 else None
-    own: dict[str, Any] = {"x": rounded(x, 10)} if spacing is None else {"x0": rounded(x[:1], 10)[0], "dx": spacing}
-    line = {"width": 1.3, "dash": DASHES[curve.style], "shape": "hv" if curve.stepped else "linear"}
-    template = "%{y:.6~g} " + untagged(curve.unit)
-    trace = objects.Scatter(
-        y=rounded(y, 7), name=untagged(curve.name), mode="lines", line=line, hovertemplate=template, **own
-    )
-    return trace, size
+class Packed:
+    """The picture of a drawing as the plot has it, its numbers in base64: x of 64 bits, each once, or an even grid as three
+    numbers; y of 32 bits, seven digits. No curve has more than about `most` points."""
+
+    def __init__(self, most: int) -> None:
+        self.most = most
+        self.thinnest = 1  # of how many samples each two are drawn, at most
+        self.xs: list[str | dict[str, float]] = []
+        self.known: dict[bytes, int] = {}
+        self.color = 0
+
+    def picture(self, drawing: Drawing) -> dict[str, Any]:
+        """The whole."""
+        axes: list[dict[str, Any]] = []
+        panes = []
+        for pane in drawing.panes:
+            if not axes or not drawing.joint:
+                axes.append(axis_of(drawing, pane))
+            panes.append(self.pane(pane, len(axes) - 1))
+        if drawing.bars:
+            if not axes:
+                axes.append(axis_of(drawing, None))
+            begin, end = drawing.span
+            panes.append({"axis": 0, "bars": [self.bar(bar.name, bar.spans, begin, end) for bar in drawing.bars]})
+        return {"title": drawing.title, "kind": "drawing", "axes": axes, "panes": panes}
+
+    def pane(self, pane: Pane, axis: int) -> dict[str, Any]:
+        """A pane over an axis."""
+        made: dict[str, Any] = {"unit": pane.y_label, "axis": axis, "height": round(130 * pane.height / 3)}
+        if pane.title:
+            made |= {"label": pane.title}
+        made["curves"] = [self.curve(curve) for curve in pane.curves]
+        made["marks"] = [{"x": it.x, "y": it.y, "text": it.text} for it in pane.marks if np.isfinite(it.y)]
+        made["limits"] = [{"x": x, "text": text} for x, text in pane.limits]
+        if pane.bands:
+            made["bands"] = [self.band(band) for band in pane.bands]
+        return made
+
+    def curve(self, curve: Curve) -> dict[str, Any]:
+        """A curve, thinned where it has many points."""
+        x, y, size = thinned(curve, self.most)
+        self.thinnest = max(self.thinnest, size)
+        color = self.next_color() if curve.color is None else curve.color
+        made: dict[str, Any] = {"name": curve.name, "unit": curve.unit, "x": self.x(x), "y": floats(y), "color": color}
+        made |= {"dash": curve.style} if curve.style else {}
+        made |= {"steps": True} if curve.stepped else {}
+        made |= {"loose": True} if len(x) > 1 and (np.diff(x) < 0).any() else {}
+        return made if curve.name else made | {"name": curve.unit or "curve", "nameless": True}
+
+    def band(self, band: Band) -> dict[str, Any]:
+        """What lies between two curves."""
+        low = Curve("", band.x, band.low)
+        x, _, size = thinned(low, self.most)
+        if size == 1:
+            return {"x": self.x(x), "low": floats(band.low), "high": floats(band.high), "color": band.color}
+        # of each piece the least of the lower curve and the greatest of the upper one
+        count = -(-len(band.x) // size)
+        pieces = [band.x[at * size] for at in range(count)]
+        lows = [np.nanmin(band.low[at * size : (at + 1) * size]) for at in range(count)]
+        highs = [np.nanmax(band.high[at * size : (at + 1) * size]) for at in range(count)]
+        return {
+            "x": self.x(np.array(pieces)), "low": floats(np.array(lows)), "high": floats(np.array(highs)), "color": band.color
+        }  # fmt: skip
+
+    def bar(self, name: str, spans: list[tuple[float, float]], begin: float, end: float) -> dict[str, Any]:
+        """A state: 1 from the begin to the end of each span, 0 elsewhere."""
+        x = np.array([begin, *(edge for span in spans for edge in span), end])
+        values = np.array([0.0, *(value for _ in spans for value in (1.0, 0.0)), 0.0])
+        return {"name": name, "x": self.x(x), "values": floats(values), "color": self.next_color()}
+
+    def next_color(self) -> int:
+        """Colours go on from pane to pane, so that each curve has its own."""
+        self.color += 1
+        return self.color - 1
+
+    def x(self, values: np.ndarray) -> int:
+        """The place of values among those that are kept."""
+        raw = np.asarray(values, "<f8").tobytes()
+        if raw not in self.known:
+            spacing = even_spacing(values)
+            grid = {"first": float(values[0]), "step": spacing, "count": len(values)} if spacing else None
+            self.known[raw] = len(self.xs)
+            self.xs.append(grid or base64.b64encode(raw).decode())
+        return self.known[raw]
 
 
-def add_marks(objects: Any, figure: Any, pane: Pane, row: int) -> None:
-    """Marks and limits of a pane."""
-    if pane.marks:
-        figure.add_trace(
-            objects.Scatter(
-                x=[mark.x for mark in pane.marks],
-                y=[mark.y for mark in pane.marks],
-                name="marks",
-                mode="markers+text",
-                text=[untagged(mark.text) for mark in pane.marks],
-                textposition="top center",
-                marker={"color": "crimson"},
-                showlegend=False,
-                hovertemplate="%{text}: %{y:.6~g}<extra></extra>",
-            ),
-            row=row,
-            col=1,
-        )
-    for x, text in pane.limits:
-        figure.add_vline(
-            x=x,
-            line_dash="dash",
-            line_color="crimson",
-            row=row,
-            col=1,
-            annotation_text=untagged(text),
-            annotation_position="bottom left",
-            annotation_yshift=8,
-        )
+def axis_of(drawing: Drawing, pane: Pane | None) -> dict[str, Any]:
+    """The axis of a pane; of times it says how many seconds its unit has."""
+    label = (pane.x_label if pane else "") or drawing.x_label
+    made: dict[str, Any] = {"label": label, "unit": label.rpartition(", ")[2] if ", " in label else label}
+    seconds = {it["unit"]: it["seconds"] for it in RULES["times"]}
+    if drawing.joint and label.split(" ")[0] in seconds:
+        made |= {"unit": label.split(" ")[0], "seconds": seconds[label.split(" ")[0]]}
+    if pane and pane.view:
+        made |= {"view": list(pane.view)}
+    return made
 
 
-def add_bars(objects: Any, figure: Any, drawing: Drawing) -> None:
-    """The bars below the panes."""
-    none: list[float | None] = [None]  # so that a state that is never 1 has its row
-    for bar in drawing.bars:
-        begins, ends = ([float(f"{span[side]:.10g}") for span in bar.spans] for side in (0, 1))
-        figure.add_trace(
-            objects.Bar(
-                y=[untagged(bar.name)] * max(1, len(bar.spans)),
-                x=[end - begin for begin, end in zip(begins, ends)] if begins else none,
-                base=begins or [0],
-                orientation="h",
-                name=untagged(bar.name),
-                width=0.7,
-                text=[f"1 from {number(begin)} to {number(end)} {drawing.x_label}" for begin, end in zip(begins, ends)]
-                or [""],
-                textposition="none",
-                hovertemplate="%{text}",
-            ),
-            row=len(drawing.heights),
-            col=1,
-        )
-    if drawing.bars:
-        figure.update_yaxes(autorange="reversed", row=len(drawing.heights), col=1)  # the first one at the top
-
-
-def rounded(values: np.ndarray, digits: int) -> list[float | None]:
-    """The values to so many digits, so that the page is short; None where missing."""
-    with np.errstate(divide="ignore", invalid="ignore"):
-        places = digits - 1 - np.floor(np.log10(np.abs(values)))
-    shown = [None if math.isnan(value) else value for value in values.tolist()]
-    small = np.nan_to_num(places, nan=0.0, posinf=0.0, neginf=0.0).astype(int).tolist()
-    return [value if value is None else round(value, place) for value, place in zip(shown, small)]
+def floats(values: np.ndarray) -> str:
+    """Values as floats of 32 bits, in base64."""
+    return base64.b64encode(np.asarray(values, "<f4").tobytes()).decode()
 
 
 def untagged(text: str) -> str:
-    """A text as it is: a pointed bracket begins no tag. A page shows &quot; as it stands."""
+    """A text as it is: a pointed bracket begins no tag."""
     return html.escape(text, quote=False)

@@ -4,19 +4,20 @@
     plot RECORD --with OTHER --offset S  two records over each other, OTHER moved by S seconds
     plot SUMMARY [OUT] [--cfg CFG]       what a scan or a batch printed, in a file; CFG names the channels of a batch
 
-OUT is a picture, NAME.png, or one page that stands alone, NAME.html, with zoom, values under the cursor and a legend
+OUT is a picture, NAME.png, or one page that stands alone, NAME.html, with zoom, values under the cursor and a table
 that hides and shows; without OUT it is a picture beside the first file. Times are in seconds from the first sample.
 Channels of one unit stand in one pane, those that would lie flat in one of their own; states, and variables that are
 0 or 1 throughout, are bars below. Where values are secondary, missing or moved, that is said. A scan is drawn as
 magnitude and angle over the frequency, its resonances marked; a batch as the share of its rows that stay at or below
 a peak, with the value that 2 % of them exceed.
 
-Pictures need matplotlib (Debian: python3-matplotlib), pages plotly (Debian: python3-plotly).
+Pictures need matplotlib (Debian: python3-matplotlib).
 """
 
 from __future__ import annotations
 
 import argparse
+import math
 import os
 from dataclasses import dataclass, replace
 
@@ -26,14 +27,17 @@ from . import page, picture
 from .choice import chosen, matching
 from .configuration import RecordError
 from .convert import number as real
-from .drawing import Bar, Curve, Drawing, Mark, Pane, base_unit, is_two_valued, number, panes_of, shown_unit, spans_of
+
+from .drawing import (
+    Bar, Curve, Drawing, Mark, Pane, base_unit, is_two_valued, number, panes_of, shown_unit, spans_of, time_unit
+)  # fmt: skip
 from .record import Record, channel_names, listed, read
 from .spectrum import peaks_of, spectrum_of
 from .summary import batch_drawing, is_summary, print_summary, read_summary, scan_drawing
 
 ENDINGS = (".png", ".html", ".htm", ".svg", ".pdf", ".jpg", ".jpeg")
-LONG = 10.0  # s, from which on times are drawn in s and not in ms
 TOLD_PEAKS = 5
+SEEN = 0.005  # of the greatest line of a spectrum: smaller ones can't be seen
 
 
 @dataclass
@@ -114,8 +118,7 @@ def files_of(files: list[str]) -> tuple[str, str | None, str]:
 
 def summary_drawing(path: str, cfg: str | None) -> Drawing:
     """The drawing of what a scan or a batch printed; its extremes are printed."""
-    names = None if cfg is None else [f"{name} in {unit}" for name, unit in channel_names(cfg)]
-    summary = read_summary(path, names, cfg or "")
+    summary = read_summary(path, None if cfg is None else channel_names(cfg), cfg or "")
     print_summary(summary)
     title = os.path.basename(path)
     return scan_drawing(summary, title) if summary.points else batch_drawing(summary, title)
@@ -241,10 +244,10 @@ def times_drawing(signals: list[Signal], told: bool = True) -> Drawing:
     """Curves and bars over the time; the extremes of each channel are printed where they are to be told."""
     begin = min((signal.times[0] for signal in signals if len(signal.times)), default=0.0)
     end = max((signal.times[-1] for signal in signals if len(signal.times)), default=0.0)
-    scale, unit = (1.0, "s") if end - begin >= LONG else (1e3, "ms")
+    unit, seconds = time_unit(end - begin)
     analog, curves, bars = [], [], []
     for signal in signals:
-        curve = Curve(signal.name, signal.times * scale, signal.values, signal.unit)
+        curve = Curve(signal.name, signal.times * round(1 / seconds), signal.values, signal.unit)
         if signal.state or is_two_valued(signal.values, signal.unit):
             bars.append(Bar(signal.name, spans_of(curve.x, signal.values) if len(curve.x) else []))
         else:
@@ -282,7 +285,10 @@ def spectrum_drawing(signal: Signal) -> Drawing:
     ]
     told += [made.told] if made.told else []
     curve = Curve(signal.name, made.hertz, made.crests / divisor, unit)
-    return Drawing("", [Pane(unit, [curve], "Hz", 4.0, marks)], notes=told)
+    # as far as it has lines that can be seen
+    end = int(np.flatnonzero(made.crests >= SEEN * made.crests.max())[-1]) + 1
+    view = (0.0, float(made.hertz[min(len(made.hertz) - 1, math.ceil(1.2 * end))]))
+    return Drawing("", [Pane(unit, [curve], "Hz", 4.0, marks, view=view)], notes=told)
 
 
 def pair_drawing(x: Signal, y: Signal) -> Drawing:

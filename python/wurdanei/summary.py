@@ -10,7 +10,7 @@ from dataclasses import dataclass, field
 import numpy as np
 
 from .configuration import RecordError
-from .drawing import Curve, Drawing, Mark, Pane, number
+from .drawing import RULES, Curve, Drawing, Mark, Pane, number, shown_unit
 
 
 @dataclass
@@ -22,6 +22,7 @@ class Summary:
     peaks: list[list[float]] = field(default_factory=list)  # of each row, channel by channel
     ended: list[tuple[int, str]] = field(default_factory=list)  # rows that ended early
     names: list[str] = field(default_factory=list)  # of the channels of a batch
+    units: list[str] = field(default_factory=list)  # theirs, empty where they aren't known
 
 
 def is_summary(path: str) -> bool:
@@ -33,8 +34,9 @@ def is_summary(path: str) -> bool:
         raise RecordError(f"{path}: {fault.strerror}") from None
 
 
-def read_summary(path: str, names: list[str] | None, cfg: str) -> Summary:
-    """The summary in a file; a batch of channels that have these names (`cfg` has them), where some are given."""
+def read_summary(path: str, channels: list[tuple[str, str]] | None, cfg: str) -> Summary:
+    """The summary in a file; a batch of channels that have these names and units (`cfg` has them), where some are
+    given."""
     with open(path, encoding="latin-1") as file:
         lines = file.read().split("\n")
     if lines[-1]:
@@ -50,7 +52,8 @@ def read_summary(path: str, names: list[str] | None, cfg: str) -> Summary:
     if not made.peaks or not made.peaks[0]:
         raise RecordError(f"{path} has no lines of a scan or a batch with channels")
     count = len(made.peaks[0])
-    made.names = [f"channel {place + 1}" for place in range(count)] if names is None else names
+    known = channels if channels is not None else [(f"channel {place + 1}", "") for place in range(count)]
+    made.names, made.units = [name for name, _ in known], ["" if unit.upper() == "PU" else unit for _, unit in known]
     if len(made.names) != count:
         raise RecordError(f"{path} has {count} channels, and {cfg} {len(made.names)}")
     if sum(line.startswith("MAX ") for line in lines) != count or any(len(row) != count for row in made.peaks):
@@ -93,8 +96,9 @@ def print_summary(summary: Summary) -> None:
     for place, name in enumerate(summary.names):
         column = np.array([row[place] for row in summary.peaks])
         ranked = np.sort(column)
+        named = f"{name} in {summary.units[place]}" if summary.units[place] else name
         print(
-            f"{name}: greatest {number(ranked[-1])} in row {column.argmax() + 1}, at most 2 % of the rows exceed "
+            f"{named}: greatest {number(ranked[-1])} in row {column.argmax() + 1}, at most 2 % of the rows exceed "
             f"{number(two_percent(ranked))}, half of them {number(ranked[(len(ranked) - 1) // 2])}"
         )
 
@@ -106,7 +110,7 @@ def angle(value: complex) -> float:
 
 def two_percent(ranked: np.ndarray) -> float:
     """The least of rising peaks that at most 2 % of the rows exceed."""
-    return float(ranked[max(0, math.ceil(0.98 * len(ranked)) - 1)])
+    return float(ranked[max(0, math.ceil(RULES["not_exceeded"] * len(ranked)) - 1)])
 
 
 def scan_drawing(summary: Summary, title: str) -> Drawing:
@@ -121,7 +125,7 @@ def scan_drawing(summary: Summary, title: str) -> Drawing:
     ]
     magnitude = Curve("magnitude", hertz, np.array([abs(value) for value in values]), "ohm")
     angles = Curve("angle", hertz, np.array([angle(value) for value in values]), "degrees")
-    panes = [Pane("magnitude, ohm", [magnitude], marks=marks), Pane("angle, degrees", [angles], height=2.0)]
+    panes = [Pane("ohm", [magnitude], marks=marks), Pane("degrees", [angles], height=2.0)]
     return Drawing(title, panes, x_label="Hz")
 
 
@@ -130,9 +134,11 @@ def batch_drawing(summary: Summary, title: str) -> Drawing:
     panes = []
     for place, name in enumerate(summary.names):
         ranked = np.sort([row[place] for row in summary.peaks])
+        divisor, unit = shown_unit(summary.units[place], float(ranked[-1]))
+        ranked = ranked / divisor
         share = 100.0 * np.arange(1, len(ranked) + 1) / len(ranked)
         limit = two_percent(ranked)
-        curve = Curve("", ranked, share, "%", stepped=True)
-        text = f"2 % at most exceed {number(limit)}"
-        panes.append(Pane("% of rows", [curve], f"peak of {name}", 2.4, limits=[(limit, text)]))
+        curve = Curve(name, ranked, share, "%", stepped=True)
+        label = f"peak of {name}, {unit}" if unit else f"peak of {name}"
+        panes.append(Pane("% of rows", [curve], label, 2.4, limits=[(limit, f"at most 2 % exceed {number(limit)}")]))
     return Drawing(title, panes)

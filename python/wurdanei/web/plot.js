@@ -419,7 +419,7 @@ class Plot {
         left = Math.max(left, ...area.bars.map(it => Math.min(110, to.measureText(it.name).width)));
       } else {
         [area.low, area.high] = this.range(area, axes[area.axis], width);
-        const count = Math.max(2, (area.bottom - area.top) / 34);
+        const count = Math.max(3, (area.bottom - area.top) / 30);
         area.ticks = area.pane.log ? Plot.logTicks(area.low, area.high, count) : Plot.ticks(area.low, area.high, count);
         left = Math.max(left, ...area.ticks.map(it => to.measureText(it.text).width));
       }
@@ -751,14 +751,18 @@ class Plot {
     const inside = x => x >= axis.from && x <= axis.to;
     to.fillStyle = to.strokeStyle = theme.mark;
     to.textAlign = "left";
+    const taken = []; // by texts, of which none stands over another
     for (const { x, y, text } of area.pane.marks ?? []) {
       if (!inside(x)) continue;
       to.beginPath();
       to.arc(across(x), this.up(area, y), 3.5, 0, 7);
       to.fill();
-      const right = across(x) + 7 + to.measureText(text).width < area.left + area.width;
-      to.textAlign = right ? "left" : "right";
-      to.fillText(text, across(x) + (right ? 7 : -7), Math.max(area.top + 8, this.up(area, y) - 8));
+      const wide = to.measureText(text).width, right = across(x) + 7 + wide < area.left + area.width;
+      const left = right ? across(x) + 7 : across(x) - 7 - wide, top = Math.max(area.top + 8, this.up(area, y) - 8);
+      if (taken.some(it => Math.abs(it.top - top) < 13 && left < it.left + it.wide && it.left < left + wide)) continue;
+      taken.push({ left, top, wide });
+      to.textAlign = "left";
+      to.fillText(text, left, top);
     }
     for (const { x, text } of area.pane.limits ?? []) {
       if (!inside(x)) continue;
