@@ -188,7 +188,7 @@ class Command(unittest.TestCase):
         self.assertIn("no channel has the same name", told)
 
     def test_picture_and_page(self):
-        for name, begins in (("a.png", b"\x89PNG"), ("a.html", b"<html>")):
+        for name, begins in (("a.png", b"\x89PNG"), ("a.html", b"<!doctype html>")):
             status, out, _ = self.run_words("case.cfg", "measured.cfg", "pairs", "--lowpass", "1500", "--out", name)
             self.assertEqual(status, 0)
             self.assertIn("drawn: ", out)
