@@ -20,7 +20,19 @@ PARTS = Path(__file__).resolve().parent / "page"
 SHARED = Path(__file__).resolve().parent.parent / "python" / "wurdanei" / "web"  # what pages of `emtp plot` have too
 # what the page's own script is made of, in order: what needs no page, the plot, the parts of the page; and that of its workers
 PURE = [f"{it}.js" for it in ("record", "cards", "measures", "pictures", "study", "fixes", "markdown")]
-PARTED = ("elements", "references", "case", "store", "program", "editor", "checking", "running", "meaning", "live", "results")
+PARTED = (
+    "elements",
+    "references",
+    "case",
+    "store",
+    "program",
+    "editor",
+    "checking",
+    "running",
+    "meaning",
+    "live",
+    "results",
+)
 SCRIPT = [*PURE, *(f"{it}.js" for it in PARTED), "files.js", "manual.js", "form.js", "page.js"]
 WORKER = ["record.js", "call.js", "worker.js"]
 MANUAL = ["cards", "control", "modelling", "recipes", "atp", "batch", "phasor", "audit", "show", "record"]
