@@ -96,7 +96,8 @@ def field(name: str, columns: tuple[int, int], unit: str, bounds: str, blank: st
     name = re.sub(r" \((?:\d+(?:, )?)+\)", "", name)
     unit, bounds = written(unit, bounds)
     # the manual names the reason of a refusal; beside a field it is enough that it is one
-    name, bounds, blank = (re.sub(r",? else `?Bad\w+`?( at \d+)?", ", else refused", it) for it in (name, bounds, blank))
+    reason = r"`?[A-Z][a-z]+[A-Z]\w*`?(?: at \d+)?"
+    name, bounds, blank = (re.sub(rf"^{reason}|(?<=else ){reason}", "refused", it) for it in (name, bounds, blank))
     for said in (", in mH", ", in microfarad"):
         name = name.replace(said, "")
     return {

@@ -107,7 +107,7 @@ const Cards = (tables => {
   function describe(it) {
     const parts = [restOf(it), it.unit];
     if (it.range) parts.push(it.range);
-    if (it.blank) parts.push(/^(refused|Bad|.*;)/.test(it.blank) ? "blank: " + it.blank : "blank means " + it.blank);
+    if (it.blank) parts.push(/^(refused|.*;)/.test(it.blank) ? "blank: " + it.blank : "blank means " + it.blank);
     return parts.filter(Boolean).join("; ");
   }
 

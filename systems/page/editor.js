@@ -176,11 +176,14 @@ const editor = (() => {
 
   // Puts text in place of a part, so that it can be undone.
   function replace(from, to, value) {
+    const focused = document.activeElement;
+    if (focused !== area) area.focus({ preventScroll: true });
     area.setSelectionRange(from, to);
     if (!document.execCommand("insertText", false, value)) {
       area.setRangeText(value, from, to, "end");
       changed();
     }
+    if (focused !== area && focused !== document.body) focused?.focus({ preventScroll: true });
   }
 
   // To the first column of the next field of the card, or of the one before; blanks are put where the line is too short.

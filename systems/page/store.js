@@ -2,7 +2,7 @@
 
 const store = {
   KEY: "emtp.cases",
-  LAST: "emtp.open", // what is open, of this tab alone: a reload opens it
+  LAST: `emtp.open ${location.pathname}`, // what is open in this tab: a reload opens it
   timer: 0,
   all() {
     return kept("localStorage", store.KEY) ?? {};

@@ -51,10 +51,16 @@ class Panel {
     });
     this.sheet = make("div", { class: "sheet" }, this.canvas);
     this.box = make("div", { class: "plot" }, this.sheet);
-    this.under = make("div", { id: "under" });
+    this.under = make("div", { id: "under" }, document.createTextNode(""));
     this.said = make("div", { id: "said", class: "only-read", "aria-live": "polite" });
     this.table = make("table", { id: "channels", "aria-label": "Channels" });
     this.scroll = make("div", { class: "scroll", tabIndex: 0, role: "region", "aria-label": "Table of the channels" }, this.table);
+    this.scroll.addEventListener("scroll", () => {
+      this.top = this.scroll.scrollTop;
+      this.tellValues();
+    }, { passive: true });
+    this.top = 0;
+    this.at = null; // what stands under the cursor
     root.append(this.bar, this.empty, this.box, this.under, this.said, this.scroll);
     this.plot = new Plot(this.canvas, at => this.tell(at), () => this.tellExtremes());
     new ResizeObserver(() => this.fit()).observe(root);
@@ -90,6 +96,7 @@ class Panel {
   fit() {
     if (!this.picture) return;
     const least = Plot.height(this.picture), scrolls = getComputedStyle(this.box).overflowY === "auto";
+    this.seen = this.scroll.clientHeight || 1e4; // of the table, in points
     this.sheet.style.height = `${Math.max(least, scrolls ? this.box.clientHeight - 2 : 300)}px`;
   }
 
@@ -142,12 +149,14 @@ class Panel {
         const only = make("button", { type: "button", class: "name", textContent: it.name, title: "This one alone; once more, all" });
         only.onclick = () => this.isolate(it);
         const cells = heads.slice(1).map(() => make("td"));
+        // values under the cursor stand in boxes of their own size, so that the table isn't laid out anew as they change
+        const values = batch ? [] : cells.slice(1, 4).map(cell => cell.appendChild(make("span", { class: "value" }, document.createTextNode(""))).firstChild);
         cells[0].textContent = batch ? picture.axes[pane.axis].unit : pane.bars ? "state" : it.unit;
         if (batch) it.told.forEach((value, place) => { cells[1 + place].textContent = number(value); });
         const row = make("tr", {}, make("td", {}, make("label", { class: "pick" }, box, Panel.swatch(it, pane)), only), ...cells);
         row.onpointerenter = () => this.light(it);
         row.onpointerleave = () => this.light(null);
-        this.rows.push({ it, pane, cells, box });
+        this.rows.push({ it, pane, cells, values, box });
         body.push(row);
       }
     }
@@ -214,34 +223,39 @@ class Panel {
       if (at.mark !== null) text += `, ${number(at.x - at.mark)} ${axis.unit} from the mark at ${number(at.mark)}`;
       if (at.mark !== null && axis.seconds && at.x !== at.mark) text += ` (${number(1 / Math.abs((at.x - at.mark) * axis.seconds))} Hz)`;
     }
-    this.under.textContent = text;
+    Panel.put(this.under.firstChild, text);
     if (!picture || picture.kind === "batch") return;
+    this.at = axis ? at : null;
     this.table.classList.toggle("no-cursor", !axis);
     this.table.classList.toggle("no-mark", !axis || at.mark === null);
-    const seen = new Map(), place = (xs, x) => {
-      const key = x === at.x ? "cursor" : "mark", own = seen.get(xs) ?? {};
-      seen.set(xs, own);
-      return own[key] ??= Plot.nearest(xs, x);
-    };
-    for (const { it, pane, cells } of this.rows) {
-      const own = axis && pane.axis === at.axis && !it.loose && it.shown !== false, values = it.y ?? it.values;
-      const value = (xs, ys, x) => { const found = place(xs, x); return found < 0 ? NaN : ys[found]; };
-      const here = own ? value(it.x, values, at.x) : NaN, first = it.behind?.[0];
-      Panel.put(cells[1], own ? number(here) : "");
-      Panel.put(cells[2], own && at.mark !== null && it.y ? number(here - value(it.x, values, at.mark)) : "");
-      Panel.put(cells[3], own && first ? number(here - value(first.x, first.y, at.x)) : "");
-    }
+    this.tellValues();
     clearTimeout(this.speaks);
     this.speaks = setTimeout(() => {
       if (document.activeElement !== this.canvas || !axis) return;
       const shown = this.rows.filter(({ it, pane }) => it.shown !== false && pane.axis === at.axis).slice(0, 8);
-      this.said.textContent = `${text}: ${shown.map(({ it, cells }) => `${it.name} ${cells[1].textContent} ${it.unit ?? ""}`).join(", ")}`;
+      this.said.textContent = `${text}: ${shown.map(row => `${row.it.name} ${this.valuesOf(row)[0]} ${row.it.unit ?? ""}`).join(", ")}`;
     }, 700);
   }
 
-  // Puts a text into a cell, where it is another one.
-  static put(cell, text) {
-    if (cell.textContent !== text) cell.textContent = text;
+  // Of a row: the value at the cursor, the difference from the mark, and from the first reference; "" where there is none.
+  valuesOf({ it, pane }) {
+    const { at } = this;
+    if (!at || pane.axis !== at.axis || it.loose || it.shown === false) return ["", "", ""];
+    const value = (xs, ys, x) => { const found = Plot.nearest(xs, x); return found < 0 ? NaN : ys[found]; };
+    const here = value(it.x, it.y ?? it.values, at.x), first = it.behind?.[0];
+    return [number(here), at.mark !== null && it.y ? number(here - value(it.x, it.y, at.mark)) : "", first ? number(here - value(first.x, first.y, at.x)) : ""];
+  }
+
+  // Fills in the values of the rows that are seen.
+  tellValues() {
+    if (!this.rows.length || this.picture?.kind === "batch") return;
+    const LOW = 24, HIGH = 40, first = Math.floor(this.top / HIGH) - 1, last = Math.ceil((this.top + this.seen) / LOW) + 1; // rows by their heights
+    for (const row of this.rows.slice(Math.max(0, first), last)) this.valuesOf(row).forEach((text, place) => Panel.put(row.values[place], text));
+  }
+
+  // Puts a text into a node of text, where it is another one.
+  static put(node, text) {
+    if (node.data !== text) node.data = text;
   }
 
   // ---- files

@@ -29,6 +29,7 @@ class Plot {
     this.lit = null; // a curve that is drawn over the others
     this.touches = new Map();
     this.wanted = "";
+    this.tells = null;
     this.columns = new WeakMap(); // of values: their least and greatest in each column of pixels, for a view
     new ResizeObserver(() => this.redraw()).observe(canvas);
     this.listen();
@@ -157,7 +158,15 @@ class Plot {
     return Math.abs(xs[low] - x) <= Math.abs(xs[high] - x) ? low : high;
   }
 
+  // Says what stands under the cursor; twelve times a second are enough to read it.
   tell() {
+    this.tells ??= setTimeout(() => {
+      this.tells = null;
+      this.tellNow();
+    }, 80);
+  }
+
+  tellNow() {
     this.told(this.picture && this.cursor
       ? { axis: this.cursor.axis, x: this.cursor.x, mark: this.mark && this.mark.axis === this.cursor.axis ? this.mark.x : null }
       : null);
@@ -370,7 +379,7 @@ class Plot {
   static height(picture) {
     const own = picture.panes.filter((pane, place) => picture.panes[place + 1]?.axis !== pane.axis).length;
     const shown = bars => bars.filter(it => it.shown !== false).length;
-    return picture.panes.filter(Plot.isShown).reduce((sum, pane) => sum + (pane.bars ? 10 + 20 * shown(pane.bars) : Plot.LEGEND + 0.6 * (pane.height ?? 130)) + Plot.GAP, 8 + 34 * own);
+    return picture.panes.filter(Plot.isShown).reduce((sum, pane) => sum + (pane.bars ? 10 + 20 * shown(pane.bars) : Plot.LEGEND + 0.5 * (pane.height ?? 130)) + Plot.GAP, 8 + 34 * own);
   }
 
   // A pane with something to draw.
