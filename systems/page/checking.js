@@ -68,12 +68,13 @@ const checking = (() => {
   async function mend(refusal, text) {
     const names = [...new Set([...results.names(), ...text.match(/\b[A-Z][A-Z0-9]{0,5}\b/g) ?? []])];
     const offered = [];
+    const own = fix => !offered.some(it => it.lines.join() === fix.lines.join());
     for (const fix of Fixes.of(editor.lines(), refusal, names)) {
       const files = [{ name: "case", bytes: bytesOf(fix.lines.join("\n")) }];
       const told = await trying.call({ show: true, words: ["case"], files });
       if (text !== editor.text()) return;
       const line = told.status === 2 ? lineRefused(Records.text(told.summary ?? told.note)) : Infinity;
-      if (told.fault || line <= refusal.line + (fix.lines.length > editor.count() ? 1 : 0)) continue;
+      if (told.fault || !own(fix) || line <= refusal.line + (fix.lines.length > editor.count() ? 1 : 0)) continue;
       offered.push(fix);
       if (offered.length === 3) break;
     }
@@ -96,8 +97,8 @@ const checking = (() => {
       const ruler = editor.kind(it.line)[1];
       const more = [
         ...(it.fixes ?? []).map(fix => does(`${fix.label[0].toUpperCase()}${fix.label.slice(1)}`, () => editor.change(fix.lines.join("\n")))),
-        ruler && does("Manual", () => manual.show(ruler)),
-      ].filter(Boolean);
+        does("Manual", () => manual.show(ruler ?? "The order of the cards", ruler ? undefined : "cards")),
+      ];
       return make("li", { class: it.kind }, button, more.length ? make("div", { class: "more" }, ...more) : null);
     }));
     const refused = found.find(it => it.kind === "refused"), said = refused ? `${placeOf(refused)}: ${sentence(refused.text)}` : "";

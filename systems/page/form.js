@@ -28,7 +28,7 @@ const form = (() => {
       const text = it.unit === "a name" || it.unit === "text" ? input.value.padEnd(wide) : input.value.padStart(wide);
       editor.setColumns(line, it.from, it.to, text);
     };
-    return make("label", { title: cards.describe(it) }, cards.nameOf(it), input, make("small", { textContent: cards.describe(it).slice(0, 60) }));
+    return make("label", { title: cards.describe(it) }, cards.nameOf(it), input, make("small", { textContent: cards.describe(it) }));
   }
 
   // A card of each kind with its ruler as a comment over it, at the line of the cursor.

@@ -67,7 +67,7 @@ const manual = (() => {
     const parts = Markdown.blocks(it.text).map(block => {
       if (block.kind === "heading") return make(block.level < 3 ? "h2" : "h3", {}, ...pieces(block.text, words));
       if (block.kind === "code") return make("pre", { tabIndex: 0 }, ...marked(block.text, words));
-      if (block.kind === "list") return make("ul", {}, ...block.items.map(item => make("li", {}, ...pieces(item, words))));
+      if (block.kind === "list") return make("ul", { class: block.numbered ? "numbered" : "" }, ...block.items.map(item => make("li", {}, ...pieces(item, words))));
       if (block.kind === "table") return make("table", {}, ...block.rows.map((row, at) => make("tr", {}, ...row.map(cell => make(at ? "td" : "th", {}, ...pieces(cell, words))))));
       return make("p", {}, ...pieces(block.text, words));
     });
@@ -87,20 +87,13 @@ const manual = (() => {
       tellList();
       if (!open && sections.length) tell(sections[0]);
     },
-    // The section of the card that a ruler is of.
-    async show(ruler) {
+    // The section of the card that a ruler is of, or of a title; of one that stands in several pages, the one of a page.
+    async show(ruler, page) {
       await load();
       search.value = "";
-      const title = ruler.replace(/ \d+$/, ""), found = sections.find(it => it.title === title);
+      const title = ruler.replace(/ \d+$/, ""), found = sections.find(it => it.title === title && (!page || it.page === page));
       results.choose("for-manual", true);
       if (found) tell(found);
-    },
-    // The sections that have some words.
-    async find(words) {
-      search.value = words;
-      await load();
-      results.choose("for-manual");
-      search.oninput();
     },
   };
 })();

@@ -44,10 +44,10 @@ const Markdown = (() => {
       } else if (/^(-|\d+\.) /.test(line)) {
         const items = [];
         for (const it of taken(it => /^(-|\d+\.) |^ {2,}\S/.test(it))) {
-          if (/^(-|\d+\.) /.test(it)) items.push(it.replace(/^(-|\d+\.) /, ""));
+          if (/^(-|\d+\.) /.test(it)) items.push(it.replace(/^- /, ""));
           else items[items.length - 1] += " " + it.trim();
         }
-        found.push({ kind: "list", items });
+        found.push({ kind: "list", items, numbered: /^\d/.test(line) });
       } else {
         const text = taken(it => it.trim() && !/^(#+ |```|\||- |\d+\. )/.test(it));
         found.push({ kind: "text", text: text.join(" ") });

@@ -158,11 +158,23 @@ const results = (() => {
 
   // ---- the note, the text, the rows and the files
 
+  // Of what a note begins with: the section of the manual, and its page.
+  const SECTIONS = [
+    [/^ENDED/, "The note and the exit status", "record"], [/REFUSED LINE/, "Which cases have one", "phasor"], [/^(AUDIT )?DIFFERS|^AUDIT/, "The first difference", "audit"],
+    [/^BAD ROW/, "What is refused", "batch"], [/^BAD CARD/, "Which fault is answered", "cards"],
+  ];
+
   function tellNote(kind, note, said) {
     $("note").className = kind;
     const parts = [];
     if (note) parts.push(make("code", { textContent: note }));
     if (said) parts.push(make("pre", { class: "said", textContent: said, tabIndex: 0 }));
+    const section = kind === "bad" && note && SECTIONS.find(([begins]) => begins.test(note));
+    if (section) {
+      const button = make("button", { type: "button", textContent: "Manual" });
+      button.onclick = () => manual.show(section[1], section[2]);
+      parts.push(button);
+    }
     $("note").replaceChildren(...parts);
   }
 
