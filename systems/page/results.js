@@ -160,7 +160,7 @@ const results = (() => {
 
   // Of what a note begins with: the section of the manual, and its page.
   const SECTIONS = [
-    [/^ENDED/, "The note and the exit status", "record"], [/REFUSED LINE/, "Which cases have one", "phasor"], [/^(AUDIT )?DIFFERS|^AUDIT/, "The first difference", "audit"],
+    [/^(PHASOR )?ENDED/, "The note and the exit status", "record"], [/REFUSED LINE/, "Which cases have one", "phasor"], [/^(AUDIT )?DIFFERS|^AUDIT/, "The first difference", "audit"],
     [/^BAD ROW/, "What is refused", "batch"], [/^BAD CARD/, "Which fault is answered", "cards"],
   ];
 
