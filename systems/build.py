@@ -275,8 +275,6 @@ def with_table_of_32(module64: bytes) -> bytes:
 
 def lowered(module64: bytes, room: Path) -> bytes:
     """The module with addresses of 32 bits, which all browsers have; by wasm-opt."""
-    if not shutil.which("wasm-opt"):
-        raise Lacking("wasm-opt isn't there, which gives the page's module addresses of 32 bits (Debian: binaryen)")
     (room / "table.wasm").write_bytes(with_table_of_32(module64))
     features = ["memory64", "bulk-memory", "sign-ext", "mutable-globals", "nontrapping-float-to-int", "multivalue"]
     flags = [f"--enable-{it}" for it in features]
@@ -292,9 +290,9 @@ def in_room():
 
 
 def page_module(room: Path) -> bytes:
-    """The page's module of WebAssembly."""
+    """The page's module of WebAssembly. What is missing for it is said before an hour of proving."""
     if not shutil.which("wasm-opt"):
-        lowered(b"", room)  # says so before an hour of proving
+        raise Lacking("no page: wasm-opt isn't there, which gives its module addresses of 32 bits (Debian: binaryen)")
     return lowered(wasm(module(room).read_text(encoding="utf-8"), room), room)
 
 

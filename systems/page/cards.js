@@ -13,8 +13,8 @@ const Cards = (tables => {
   const codeOf = line => parseInt(line.slice(8, 10), 10) || 0;
   const endsPoints = line => Number(line.slice(0, 16).replace(/[dD]/, "E")) === 9999;
 
-  // Goes over the lines of a case once: of each, what it is read as, and the ruler that has its fields (none: null). A card
-  // that is refused changes nothing here: the lines behind it are guessed.
+  // Goes over the lines of a case once: of each, what it is read as, and the ruler that has its fields (none: null). It is a guess,
+  // for the moment until the program says it (`toldBy`), and for the lines behind a refused card.
   function kinds(lines) {
     const found = [];
     let place = "begin", section = 0, coefficients = 0, points = null, wide = false;
@@ -88,6 +88,18 @@ const Cards = (tables => {
     }
   }
 
+  // The same by what the program reads each line as, [{ line, kind }] as `show --kinds` tells it: a line that was guessed otherwise gets
+  // that kind, and its ruler.
+  function toldBy(found, lines, told) {
+    for (const { line, kind } of told) {
+      const guess = found[line - 1];
+      if (!guess || guess[0] === kind) continue;
+      const section = SECTIONS.indexOf(kind);
+      found[line - 1] = [kind, section < 0 ? null : rulerOf(section, lines[line - 1], false)];
+    }
+    return found;
+  }
+
   // The fields of a card by its ruler: of those that only some types have, those of its type.
   function fieldsOf(ruler, line) {
     if (!tables.cards[ruler]) return [];
@@ -118,5 +130,5 @@ const Cards = (tables => {
     return card.kinds[ruler.startsWith("Supplemental") ? codeOf(line) : typeOf(line)] || "";
   }
 
-  return { kinds, fieldsOf, fieldsAt, describe, nameOf, typeName, isComment, ruler: name => tables.cards[name]?.ruler ?? "" };
+  return { kinds, toldBy, fieldsOf, fieldsAt, describe, nameOf, typeName, isComment, ruler: name => tables.cards[name]?.ruler ?? "" };
 });

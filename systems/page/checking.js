@@ -51,7 +51,9 @@ const checking = (() => {
     }
     const listing = Records.text(told.summary ?? told.note ?? new Uint8Array());
     const why = told.status === 2 ? await explained(["--why", "case"], [{ name: "case", bytes: bytesOf(text) }]) : "";
+    const kinds = await explained(["--kinds", "case"], [{ name: "case", bytes: bytesOf(text) }]);
     if (text !== editor.text()) return;
+    editor.setKinds([...kinds.matchAll(/^(\d+)\t(.*)$/gm)].filter(it => !it[2].startsWith("due: ")).map(it => ({ line: Number(it[1]), kind: it[2] })));
     const refusal = told.status === 2 ? refusalOf(listing, why) : null;
     found = refusal ? [refusal] : warningsOf(listing);
     at = -1;

@@ -246,6 +246,11 @@ const editor = (() => {
     kind: line => read[line - 1] ?? ["", null],
     line: line => lines[line - 1] ?? "",
     count: () => lines.length,
+    // What the program reads each line as.
+    setKinds(told) {
+      cards.toldBy(read, lines, told);
+      redraw();
+    },
     setMarks(found) {
       marks = new Map();
       area.setAttribute("aria-invalid", String(found.some(it => it.kind === "refused")));

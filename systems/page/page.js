@@ -149,6 +149,7 @@ const divider = (() => {
   };
   const before = kept("localStorage", KEY);
   if (before) set(before);
+  for (const [name, value] of [["now", left.clientWidth], ["min", 240], ["max", innerWidth - 320]]) line.setAttribute(`aria-value${name}`, value);
   return { set };
 })();
 

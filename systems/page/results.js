@@ -206,16 +206,20 @@ const results = (() => {
   function showRows(channels, rows, name, opened) {
     $("for-rows").hidden = !rows.length;
     if (!rows.length) return;
-    const heads = [rows[0].head, "how it ended", ...channels.map(it => it.unit ? `${it.name}, ${it.unit}` : it.name)];
-    const told = channels.map((_, place) => Study.statistics(rows.map(it => it.peaks[place])));
+    const named = units => [rows[0].head, "how it ended", ...channels.map((it, place) => units[place] ? `${it.name}, ${units[place]}` : it.name)];
+    const scales = channels.map((it, place) => {
+      const [factor, base] = Rules.baseUnit(it.unit), [divisor, unit] = Rules.shownUnit(base, factor * Rules.greatest(rows.map(row => row.peaks[place] ?? 0)));
+      return { factor: factor / divisor, unit };
+    });
+    const told = scales.map(({ factor }, place) => Study.statistics(rows.map(it => it.peaks[place] * factor)));
     const lines = [["greatest", "greatest"], ["at most 2 % exceed", "exceeded"], ["mean", "mean"], ["deviation", "deviation"]]
       .map(([label, key]) => [label, "", ...told.map(it => it ? number(it[key]) : "–")]);
     const table = $("rows-table");
-    tableOf(table, heads, rows.map(it => [it.label, it.how, ...channels.map((_, place) => number(it.peaks[place]))]), at => opened(rows[at]));
+    tableOf(table, named(scales.map(it => it.unit)), rows.map(it => [it.label, it.how, ...scales.map(({ factor }, place) => number(it.peaks[place] * factor))]), at => opened(rows[at]));
     table.createTFoot().append(...lines.map(cells => make("tr", {}, ...cells.map(text => make("th", { textContent: text })))));
     table.createCaption().textContent = "The greatest magnitude of each channel. A row that is pressed opens and runs.";
     const quoted = text => /[",\n]/.test(text) ? `"${text.replace(/"/g, '""')}"` : text;
-    const csv = [heads, ...rows.map(it => [it.label, it.how, ...channels.map((_, place) => it.words?.[place] ?? String(it.peaks[place] ?? ""))])].map(cells => cells.map(text => quoted(String(text))).join(",")).join("\n") + "\n";
+    const csv = [named(channels.map(it => it.unit)), ...rows.map(it => [it.label, it.how, ...channels.map((_, place) => it.words?.[place] ?? String(it.peaks[place] ?? ""))])].map(cells => cells.map(text => quoted(String(text))).join(",")).join("\n") + "\n";
     files.push({ name: `${name}.rows.csv`, bytes: new TextEncoder().encode(csv), what: "the rows and their peaks" });
   }
 

@@ -167,6 +167,12 @@ const TESTS = (() => {
       near(it.deviation, Math.sqrt(5 / 3), 1e-12);
       same(Study.statistics([]), null);
     },
+    "what the program says of a line counts more than a guess": () => {
+      const own = Cards({ cards: {} }), lines = ["BEGIN NEW DATA CASE", "", "", "  A"], found = own.kinds(lines);
+      same(found[3], ["a branch card", "Series branch: resistance, inductance, capacitance 1"]);
+      same(own.toldBy(found, lines, [{ line: 4, kind: "a switch card" }])[3], ["a switch card", "Switch 1"]);
+      same(own.toldBy(found, lines, [{ line: 4, kind: "the end of a section" }])[3], ["the end of a section", null]);
+    },
     "fixes of a refused card": () => {
       const labels = (lines, refusal, names = []) => Fixes.of(lines, refusal, names).map(it => it.label);
       same(labels(["14src   1."], { line: 1, from: 3, to: 8 }, ["SRC"])[0], "write SRC for src");

@@ -379,7 +379,7 @@ class Plot {
   static height(picture) {
     const own = picture.panes.filter((pane, place) => picture.panes[place + 1]?.axis !== pane.axis).length;
     const shown = bars => bars.filter(it => it.shown !== false).length;
-    return picture.panes.filter(Plot.isShown).reduce((sum, pane) => sum + (pane.bars ? 10 + 20 * shown(pane.bars) : Plot.LEGEND + 0.5 * (pane.height ?? 130)) + Plot.GAP, 8 + 34 * own);
+    return picture.panes.filter(Plot.isShown).reduce((sum, pane) => sum + (pane.bars ? 10 + 20 * shown(pane.bars) : Plot.LEGEND + 0.5 * (pane.height ?? 130)) + Plot.GAP, 4 + 30 * own);
   }
 
   // A pane with something to draw.
@@ -417,13 +417,13 @@ class Plot {
     const { axes } = this.picture, panes = this.picture.panes.filter(Plot.isShown);
     const own = panes.map((pane, place) => place === panes.length - 1 || panes[place + 1].axis !== pane.axis);
     const areas = panes.map((pane, place) => ({ pane, axis: pane.axis, own: own[place], legend: this.legend(to, pane, width), bars: pane.bars?.filter(it => it.shown !== false) }));
-    const fixed = areas.reduce((sum, it) => sum + it.legend.height + Plot.GAP + (it.own ? 34 : 0) + (it.bars ? 20 * it.bars.length + 6 : 0), 4);
+    const fixed = areas.reduce((sum, it) => sum + it.legend.height + Plot.GAP + (it.own ? 30 : 0) + (it.bars ? 20 * it.bars.length + 6 : 0), 4);
     const shares = panes.reduce((sum, pane) => sum + (pane.bars ? 0 : pane.height ?? 130), 0) || 1;
     let left = 0, top = 2;
     for (const area of areas) {
       area.top = top + area.legend.height;
       area.bottom = area.top + (area.bars ? 20 * area.bars.length + 6 : Math.max(40, (height - fixed) * (area.pane.height ?? 130) / shares));
-      top = area.bottom + Plot.GAP + (area.own ? 34 : 0);
+      top = area.bottom + Plot.GAP + (area.own ? 30 : 0);
       if (area.bars) {
         left = Math.max(left, ...area.bars.map(it => Math.min(110, to.measureText(it.name).width)));
       } else {
