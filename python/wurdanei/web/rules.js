@@ -2,6 +2,12 @@
 
 // wurdanei.drawing has the same rules for pictures of paper, by the same numbers; python/tests/drawn.json holds both to one table.
 const Rules = (rules => {
+  function scaled(values, factor, divisor) {
+    const made = new Float64Array(values.length);
+    for (let at = 0; at < made.length; at++) made[at] = values[at] * factor / divisor;
+    return made;
+  }
+
   // How many volts or amperes a unit of a channel has, and V or A; of another unit 1 and the unit, none of PU.
   function baseUnit(unit) {
     const found = /^([uµmkKMG]?)([VA])$/.exec(unit);
@@ -15,7 +21,7 @@ const Rules = (rules => {
   // The greatest magnitude of some values.
   function greatest(values) {
     let most = 0;
-    for (const value of values) if (Math.abs(value) > most) most = Math.abs(value);
+    for (let at = 0; at < values.length; at++) if (Math.abs(values[at]) > most) most = Math.abs(values[at]);
     return most;
   }
 
@@ -33,26 +39,31 @@ const Rules = (rules => {
     return Array.from({ length: rank + 1 }, (_, wanted) => ranks.flatMap((own, at) => own === wanted ? [at] : [])).filter(it => it.length);
   }
 
-  // How many of the other curves lie over this one for much of its time, so that it has to be drawn apart from them. All have
-  // their values at the same times.
-  function covering(values, others) {
-    const step = Math.max(1, Math.floor(values.length / rules.compared)), count = Math.ceil(values.length / step);
-    let spread = 0;
-    for (const ys of [values, ...others]) {
-      let low = Infinity, high = -Infinity;
-      for (let at = 0; at < ys.length; at += step) {
-        if (ys[at] < low) low = ys[at];
-        if (ys[at] > high) high = ys[at];
-      }
-      if (high - low > spread) spread = high - low;
+  // Some of the values of a curve, as many as are compared, and how far they spread.
+  function sampled(values) {
+    const step = Math.max(1, Math.floor(values.length / rules.compared)), some = new Float64Array(Math.ceil(values.length / step));
+    let low = Infinity, high = -Infinity;
+    for (let at = 0; at < some.length; at++) {
+      const value = values[at * step];
+      some[at] = value;
+      if (value < low) low = value;
+      if (value > high) high = value;
     }
-    const near = rules.near * (spread || 1);
-    return count && others.filter(ys => {
+    return { some, spread: high > low ? high - low : 0 };
+  }
+
+  // How many of the other curves lie over this one for much of its time, so that it has to be drawn apart from them. All are
+  // `sampled`, at the same times.
+  function lying({ some, spread }, others) {
+    const count = some.length, wanted = rules.overlap * count, near = rules.near * (others.reduce((most, it) => Math.max(most, it.spread), spread) || 1);
+    return count && others.filter(other => {
       let same = 0;
-      for (let at = 0; at < values.length; at += step) if (Math.abs(values[at] - ys[at]) <= near) same++;
-      return same >= rules.overlap * count;
+      for (let at = 0; at < count && same < wanted; at++) if (Math.abs(some[at] - other.some[at]) <= near) same++;
+      return same >= wanted;
     }).length;
   }
+
+  const covering = (values, others) => lying(sampled(values), others.map(sampled));
 
   // A variable without unit that is 0 or 1 throughout, which is drawn as a bar.
   function isTwoValued(values, unit) {
@@ -76,16 +87,17 @@ const Rules = (rules => {
     const curves = based.filter(it => !bars.includes(it)), panes = [];
     let color = 0;
     for (const unit of new Set(curves.map(it => it.base))) {
-      const own = curves.filter(it => it.base === unit);
-      for (const group of byMagnitude(own.map(it => it.factor * greatest(it.values)))) {
-        const those = group.map(at => own[at]);
-        const [divisor, shown] = shownUnit(unit, Math.max(...those.map(it => it.factor * greatest(it.values))));
-        const made = those.map(it => it.factor === divisor ? it.values : it.values.map(value => value * it.factor / divisor));
+      const own = curves.filter(it => it.base === unit), sizes = own.map(it => it.factor * greatest(it.values));
+      for (const group of byMagnitude(sizes)) {
+        const [divisor, shown] = shownUnit(unit, Math.max(...group.map(at => sizes[at]))), before = [];
         panes.push({
           unit: shown, axis: 0,
-          curves: those.map((it, at) => ({
-            name: it.name, unit: shown, divisor, x, y: made[at], color: color++, dash: covering(made[at], made.slice(0, at)) % rules.styles,
-          })),
+          curves: group.map(at => {
+            const { name, values, factor } = own[at], y = factor === divisor ? values : scaled(values, factor, divisor), some = sampled(y);
+            const dash = lying(some, before) % rules.styles;
+            before.push(some);
+            return { name, unit: shown, divisor, x, y, color: color++, dash };
+          }),
         });
       }
     }
