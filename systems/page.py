@@ -35,7 +35,7 @@ PARTED = (
 )
 SCRIPT = [*PURE, *(f"{it}.js" for it in PARTED), "files.js", "manual.js", "form.js", "page.js"]
 WORKER = ["record.js", "call.js", "worker.js"]
-MANUAL = ["cards", "control", "modelling", "recipes", "atp", "batch", "phasor", "audit", "show", "record"]
+MANUAL = ["cards", "control", "modelling", "recipes", "atp", "batch", "phasor", "audit", "show", "worth", "record"]
 FIRST = "breaker_recovery"  # the example that is open at first
 MOST_GIVEN = 300_000  # bytes of a record that an example brings along at most
 

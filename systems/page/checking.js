@@ -99,7 +99,7 @@ const checking = (() => {
       const ruler = editor.kind(it.line)[1];
       const more = [
         ...(it.fixes ?? []).map(fix => does(`${fix.label[0].toUpperCase()}${fix.label.slice(1)}`, () => editor.change(fix.lines.join("\n")))),
-        does("Manual", () => manual.show(ruler ?? "The order of the cards", ruler ? undefined : "cards")),
+        does("Manual", () => it.kind === "warned" ? manual.show("Warnings", "show") : manual.show(ruler ?? "The order of the cards", ruler ? undefined : "cards")),
       ];
       return make("li", { class: it.kind }, button, more.length ? make("div", { class: "more" }, ...more) : null);
     }));

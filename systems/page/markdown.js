@@ -16,7 +16,7 @@ const Markdown = (() => {
     return found;
   }
 
-  const cells = line => line.trim().replace(/^\||\|$/g, "").split("|").map(it => it.trim());
+  const cells = line => line.trim().replace(/^\||\|$/g, "").split(/(?<!\\)\|/).map(it => it.trim().replace(/\\\|/g, "|"));
 
   // The blocks of a text: { kind: "heading" (level), "code", "table" (rows), "list" (items), "text", text }.
   function blocks(source) {

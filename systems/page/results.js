@@ -263,7 +263,7 @@ const results = (() => {
     const said = status === 0 ? summed(what, told) : await meaning(call, status, note || summary);
     tellNote(status === 0 ? "good" : "bad", what === "show" ? "" : shown.trimEnd(), said);
     const refused = /REFUSED LINE (\d+)/.exec(note || summary);
-    if (status === 7 && refused) checking.also({ kind: "refused", line: Number(refused[1]), from: 0, to: 0, text: `${what}: ${said.trim().split("\n").at(-1).replace(/\.$/, "")}` });
+    if (status === 7 && refused) checking.also({ kind: "refused", line: Number(refused[1]), from: 0, to: 0, text: `${what}: ${said.trim().split("\n").at(-1).replace(/\.$/, "") || "refused"}` });
     $("text").textContent = summary.length + note.length > 300000 ? (summary + note).slice(0, 300000) + "\n.. the rest is in the file" : summary + note;
     const phasors = what === "phasor" && status === 0 ? Records.readPhasors(told.note ?? told.summary) : [];
     $("phasors").hidden = !phasors.length;

@@ -184,6 +184,7 @@ const TESTS = (() => {
       same(Markdown.sections("p", text).map(it => it.title), ["Page", "Two"]);
       same(Markdown.blocks(text).map(it => it.kind), ["heading", "text", "heading", "list", "code", "table"]);
       same(Markdown.blocks(text)[3].items, ["one more", "two"]);
+      same(Markdown.blocks("| a \\| b | c |\n")[0].rows, [["a | b", "c"]]);
       same(Markdown.blocks("1. a\n2. b\n"), [{ kind: "list", items: ["1. a", "2. b"], numbered: true }]);
       same(Markdown.blocks(text)[5].rows, [["a", "b"], ["1", "2"]]);
       same(Markdown.inline("A `b` **c** [d](e.md#f)").map(it => it.kind + it.text), ["A ", "codeb", " ", "strongc", " ", "linkd"]);
