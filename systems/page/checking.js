@@ -13,14 +13,18 @@ function refusalOf(note, why) {
   if (!found) return null;
   const line = Number(found[1]), column = Number(found[2]);
   const lines = why.split("\n"), marked = lines.findIndex(text => /^ *\^ /.test(text));
-  const said = { kind: "refused", line: Math.min(line, editor.count()), text: marked < 0 ? lines[0] : lines[marked].trim().slice(2), more: lines.slice(Math.max(marked, 0) + 1).join(" ") };
+  const said = {
+    kind: "refused", line: Math.min(line, editor.count()), text: marked < 0 ? lines[0] : lines[marked].trim().slice(2),
+    more: lines.slice(Math.max(marked, 0) + 1).join(" "),
+  };
   if (!editor.text().trim()) return { ...said, from: 0, to: 0, text: "there are no cards", more: "New begins with a small whole case." };
   if (found[3] === "MissingSection" || found[3] === "TooManyLines") return { ...said, from: 0, to: 0 };
   const card = editor.line(line), field = cards.fieldsAt(editor.kind(line)[1], card, column).find(it => it.from === column);
   if (found[3] === "ByteOutside" || found[3] === "PastColumn80") return { ...said, from: column, to: column };
   if (field) {
     const takes = cards.describe(field);
-    return { ...said, from: column, to: field.to, text: `${cards.nameOf(field)}: ${said.text}`, more: [takes && `${cards.nameOf(field)} takes: ${takes}.`, said.more].filter(Boolean).join(" ") };
+    return { ...said, from: column, to: field.to, text: `${cards.nameOf(field)}: ${said.text}`,
+      more: [takes && `${cards.nameOf(field)} takes: ${takes}.`, said.more].filter(Boolean).join(" ") };
   }
   return { ...said, from: column, to: column - 1 + Math.max(1, /^\s*\S*/.exec(card.slice(column - 1))[0].length) };
 }
@@ -53,7 +57,7 @@ const checking = (() => {
     const why = told.status === 2 ? await explained(["--why", "case"], [{ name: "case", bytes: bytesOf(text) }]) : "";
     const kinds = await explained(["--kinds", "case"], [{ name: "case", bytes: bytesOf(text) }]);
     if (text !== editor.text()) return;
-    editor.setKinds([...kinds.matchAll(/^(\d+)\t(.*)$/gm)].filter(it => !it[2].startsWith("due: ")).map(it => ({ line: Number(it[1]), kind: it[2] })));
+    editor.setKinds([...kinds.matchAll(/^(\d+)\t(?!due: )(.*)$/gm)].map(it => ({ line: Number(it[1]), kind: it[2] })));
     const refusal = told.status === 2 ? refusalOf(listing, why) : null;
     found = refusal ? [refusal] : warningsOf(listing);
     at = -1;
@@ -84,7 +88,8 @@ const checking = (() => {
     if (offered.length) tell();
   }
 
-  const placeOf = it => `Line ${it.line}${it.from ? `, column${it.to > it.from ? "s" : ""} ${it.from}${it.to > it.from ? "-" + it.to : ""}` : ""}`;
+  const columnsOf = it => it.to > it.from ? `columns ${it.from}-${it.to}` : `column ${it.from}`;
+  const placeOf = it => `Line ${it.line}${it.from ? `, ${columnsOf(it)}` : ""}`;
   const sentence = text => /[.!?]$/.test(text) ? text : `${text}.`;
 
   function tell() {
@@ -98,8 +103,10 @@ const checking = (() => {
       };
       const ruler = editor.kind(it.line)[1];
       const more = [
-        ...(it.fixes ?? []).map(fix => does(`${fix.label[0].toUpperCase()}${fix.label.slice(1)}`, () => editor.change(fix.lines.join("\n")))),
-        does("Manual", () => it.kind === "warned" ? manual.show("Warnings", "show") : manual.show(ruler ?? "The order of the cards", ruler ? undefined : "cards")),
+        ...(it.fixes ?? []).map(fix => does(`${fix.label[0].toUpperCase()}${fix.label.slice(1)}`,
+          () => editor.change(fix.lines.join("\n")))),
+        does("Manual", () => it.kind === "warned" ? manual.show("Warnings", "show")
+          : manual.show(ruler ?? "The order of the cards", ruler ? undefined : "cards")),
       ];
       return make("li", { class: it.kind }, button, more.length ? make("div", { class: "more" }, ...more) : null);
     }));

@@ -29,8 +29,9 @@ const editor = (() => {
     area.focus();
     area.setSelectionRange(offset(line, column), offset(line, last));
     const top = (line - 1) * HEIGHT, left = (column - 1) * wide;
-    if (top < area.scrollTop || top > area.scrollTop + area.clientHeight - 2 * HEIGHT) area.scrollTop = Math.max(0, top - area.clientHeight / 3);
-    if (left < area.scrollLeft || left > area.scrollLeft + area.clientWidth - 4 * wide) area.scrollLeft = Math.max(0, left - area.clientWidth / 3);
+    const { scrollTop, scrollLeft, clientHeight, clientWidth } = area;
+    if (top < scrollTop || top > scrollTop + clientHeight - 2 * HEIGHT) area.scrollTop = Math.max(0, top - clientHeight / 3);
+    if (left < scrollLeft || left > scrollLeft + clientWidth - 4 * wide) area.scrollLeft = Math.max(0, left - clientWidth / 3);
     redraw();
   }
 
@@ -122,7 +123,8 @@ const editor = (() => {
     }
     for (const it of fields) {
       const columns = it.from === it.to ? `column ${it.from}` : `columns ${it.from}-${it.to}`;
-      told.push(make("span", {}, make("b", { textContent: cards.nameOf(it) }), `, ${columns}${cards.describe(it) ? ": " + cards.describe(it) : ""}`));
+      told.push(make("span", {}, make("b", { textContent: cards.nameOf(it) }),
+        `, ${columns}${cards.describe(it) ? ": " + cards.describe(it) : ""}`));
     }
     if (cards.isComment(lines[line - 1] ?? "")) told.push(make("span", { class: "comment", textContent: commentAt(line - 1) }));
     if (ruler) {
@@ -130,7 +132,8 @@ const editor = (() => {
       button.onclick = () => manual.show(ruler);
       told.push(button);
     }
-    if (ruler && !fields.length) told.push(make("span", { class: "place", textContent: column > 80 ? "past column 80 only blanks may stand" : "no field reads this column" }));
+    if (ruler && !fields.length) told.push(make("span", { class: "place", textContent: column > 80
+      ? "past column 80 only blanks may stand" : "no field reads this column" }));
     if ($("field").textContent !== told.map(it => it.textContent).join("")) $("field").replaceChildren(...told);
   }
 

@@ -13,7 +13,8 @@ async function saveCase(asAnother = false) {
   const name = `${open.name.replace(/\.case$/, "")}.case`, bytes = bytesOf(editor.text());
   if (!window.showSaveFilePicker) return save(name, bytes);
   try {
-    if (asAnother || !open.file) open.file = await window.showSaveFilePicker({ suggestedName: name, types: [{ description: "Cards", accept: { "text/plain": [".case"] } }] });
+    if (asAnother || !open.file) open.file = await window.showSaveFilePicker({ suggestedName: name,
+      types: [{ description: "Cards", accept: { "text/plain": [".case"] } }] });
     const stream = await open.file.createWritable();
     await stream.write(bytes);
     await stream.close();
@@ -62,7 +63,8 @@ async function openFiles(list, handles = []) {
     }
   }));
   const found = all.filter(Boolean), ending = it => it.name.toLowerCase().replace(/.*\./, "");
-  const cfg = found.find(it => ending(it) === "cfg"), dat = found.find(it => ending(it) === "dat"), cff = found.find(it => ending(it) === "cff");
+  const cfg = found.find(it => ending(it) === "cfg"), dat = found.find(it => ending(it) === "dat"),
+    cff = found.find(it => ending(it) === "cff");
   for (const it of found.filter(it => ![cfg, dat, cff].includes(it))) {
     if (!isText(it.bytes)) {
       say(`${it.name} is no text, so it is no case.`, { stays: true });

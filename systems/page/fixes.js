@@ -7,7 +7,8 @@ const Fixes = (() => {
     const card = lines[line - 1], found = [];
     if (card === undefined) return found;
     const put = (label, ...texts) => found.push({ label, lines: [...lines.slice(0, line - 1), ...texts, ...lines.slice(line)] });
-    const field = from ? card.slice(from - 1, to) : "", known = names.find(it => it !== field.trim() && it.toUpperCase() === field.trim().toUpperCase());
+    const field = from ? card.slice(from - 1, to) : "", word = field.trim();
+    const known = names.find(it => it !== word && it.toUpperCase() === word.toUpperCase());
     if (known) put(`write ${known} for ${field.trim()}`, card.slice(0, from - 1) + known.padEnd(to - from + 1) + card.slice(to));
     if (from && field.trim()) {
       // the word that stands in the field may begin before it
@@ -15,7 +16,9 @@ const Fixes = (() => {
       while (start > 1 && card[start - 2] !== " ") start--;
       for (const by of [1, 2, 3]) {
         const columns = `${by} column${by > 1 ? "s" : ""}`;
-        if (card.slice(start - 1 - by, start - 1).trim() === "" && start - 1 >= by) put(`move it ${columns} to the left`, card.slice(0, start - 1 - by) + card.slice(start - 1));
+        if (card.slice(start - 1 - by, start - 1).trim() === "" && start - 1 >= by) {
+          put(`move it ${columns} to the left`, card.slice(0, start - 1 - by) + card.slice(start - 1));
+        }
         put(`move it ${columns} to the right`, card.slice(0, start - 1) + " ".repeat(by) + card.slice(start - 1));
       }
     }

@@ -21,7 +21,8 @@ const form = (() => {
 
   function boxOf(it, line, card) {
     const wide = it.to - it.from + 1;
-    const input = make("input", { type: "text", value: card.slice(it.from - 1, it.to).trim(), maxLength: wide, size: wide, autocomplete: "off", spellcheck: false });
+    const input = make("input", { type: "text", value: card.slice(it.from - 1, it.to).trim(), maxLength: wide, size: wide,
+      autocomplete: "off", spellcheck: false });
     if (it.unit === "a name") input.setAttribute("list", "names");
     input.oninput = () => {
       // numbers stand at the right of their columns, names at the left
@@ -32,7 +33,9 @@ const form = (() => {
   }
 
   // A card of each kind with its ruler as a comment over it, at the line of the cursor.
-  insert.replaceChildren(make("option", { value: "", textContent: "a card…" }), ...Object.keys(TABLES.cards).map(ruler => make("option", { value: ruler, textContent: ruler.replace(/ 1$/, "").replace(/ (\d)$/, ", card $1") })));
+  const named = ruler => ruler.replace(/ 1$/, "").replace(/ (\d)$/, ", card $1");
+  const kinds = Object.keys(TABLES.cards).map(ruler => make("option", { value: ruler, textContent: named(ruler) }));
+  insert.replaceChildren(make("option", { value: "", textContent: "a card…" }), ...kinds);
   insert.onchange = () => {
     const ruler = insert.value, { line } = editor.place();
     insert.value = "";

@@ -2,7 +2,8 @@
 
 const manual = (() => {
   const box = $("tab-manual");
-  const search = make("input", { id: "manual-search", type: "search", placeholder: "Search the manual", "aria-label": "Search the manual" });
+  const search = make("input", { id: "manual-search", type: "search", placeholder: "Search the manual",
+    "aria-label": "Search the manual" });
   const list = make("ul", { id: "manual-list", "aria-label": "Sections" });
   const text = make("div", { id: "manual-text", tabIndex: 0, role: "region", "aria-label": "Section of the manual" });
   box.append(search, list, text);
@@ -67,8 +68,10 @@ const manual = (() => {
     const parts = Markdown.blocks(it.text).map(block => {
       if (block.kind === "heading") return make(block.level < 3 ? "h2" : "h3", {}, ...pieces(block.text, words));
       if (block.kind === "code") return make("pre", { tabIndex: 0 }, ...marked(block.text, words));
-      if (block.kind === "list") return make("ul", { class: block.numbered ? "numbered" : "" }, ...block.items.map(item => make("li", {}, ...pieces(item, words))));
-      if (block.kind === "table") return make("table", {}, ...block.rows.map((row, at) => make("tr", {}, ...row.map(cell => make(at ? "td" : "th", {}, ...pieces(cell, words))))));
+      if (block.kind === "list") return make("ul", { class: block.numbered ? "numbered" : "" },
+        ...block.items.map(item => make("li", {}, ...pieces(item, words))));
+      if (block.kind === "table") return make("table", {},
+        ...block.rows.map((row, at) => make("tr", {}, ...row.map(cell => make(at ? "td" : "th", {}, ...pieces(cell, words))))));
       return make("p", {}, ...pieces(block.text, words));
     });
     text.replaceChildren(...parts);

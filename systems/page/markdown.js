@@ -40,7 +40,8 @@ const Markdown = (() => {
       } else if (line.startsWith("    ")) {
         found.push({ kind: "code", text: taken(it => it.startsWith("    ") || !it.trim() ).map(it => it.slice(4)).join("\n").trimEnd() });
       } else if (line.startsWith("|")) {
-        found.push({ kind: "table", rows: taken(it => it.startsWith("|")).filter(it => !/^[|\s:-]+$/.test(it) || /^\|( *\|)+ *$/.test(it)).map(cells) });
+        const isRule = it => /^[|\s:-]+$/.test(it) && it.includes("-");
+        found.push({ kind: "table", rows: taken(it => it.startsWith("|")).filter(it => !isRule(it)).map(cells) });
       } else if (/^(-|\d+\.) /.test(line)) {
         const items = [];
         for (const it of taken(it => /^(-|\d+\.) |^ {2,}\S/.test(it))) {
@@ -76,7 +77,8 @@ const Markdown = (() => {
   function matching(all, words) {
     const wanted = words.toLowerCase().split(/\s+/).filter(Boolean);
     if (!wanted.length) return all;
-    const score = it => (wanted.every(word => it.title.toLowerCase().includes(word)) ? 1000 : 0) + wanted.reduce((sum, word) => sum + it.plain.split(word).length - 1, 0);
+    const score = it => (wanted.every(word => it.title.toLowerCase().includes(word)) ? 1000 : 0)
+      + wanted.reduce((sum, word) => sum + it.plain.split(word).length - 1, 0);
     return all.filter(it => wanted.every(word => it.plain.includes(word))).sort((a, b) => score(b) - score(a));
   }
 

@@ -16,7 +16,8 @@ const Measures = (() => {
     }
     for (let size = 2; size <= count; size <<= 1) {
       const half = size >> 1, turn = (back ? 2 : -2) * Math.PI / size;
-      const cosines = Float64Array.from({ length: half }, (_, at) => Math.cos(turn * at)), sines = Float64Array.from({ length: half }, (_, at) => Math.sin(turn * at));
+      const cosines = Float64Array.from({ length: half }, (_, at) => Math.cos(turn * at)),
+        sines = Float64Array.from({ length: half }, (_, at) => Math.sin(turn * at));
       for (let begin = 0; begin < count; begin += size) {
         for (let at = 0; at < half; at++) {
           const low = begin + at, high = low + half;
@@ -83,7 +84,9 @@ const Measures = (() => {
     for (let at = 0; at < count; at++) off = Math.max(off, Math.abs(times[at] - times[0] - spacing * at));
     if (off > 1e-6 * spacing + 1e-12 * Math.abs(times[count - 1])) told.push("samples aren't evenly spaced");
     if (good.length < count) told.push(`${count - good.length} values are missing`);
-    const even = told.length ? between(Float64Array.from({ length: count }, (_, at) => Math.min(its[its.length - 1], Math.max(its[0], times[0] + spacing * at))), its, good) : values;
+    const grid = () => Float64Array.from({ length: count }, (_, at) => times[0] + spacing * at);
+    const within = time => Math.min(its[its.length - 1], Math.max(its[0], time));
+    const even = told.length ? between(grid().map(within), its, good) : values;
     let sum = 0;
     const windowed = Float64Array.from(even, (value, at) => {
       const weight = 0.5 - 0.5 * Math.cos(2 * Math.PI * at / count);
@@ -113,7 +116,8 @@ const Measures = (() => {
   // The least and the greatest value that a curve, straight between its samples, has within `width` of each of the rising places.
   function band(xs, ys, places, width) {
     const low = new Float64Array(places.length), high = new Float64Array(places.length);
-    const begins = between(places.map(x => Math.max(xs[0], x - width)), xs, ys), ends = between(places.map(x => Math.min(xs[xs.length - 1], x + width)), xs, ys);
+    const begins = between(places.map(x => Math.max(xs[0], x - width)), xs, ys),
+      ends = between(places.map(x => Math.min(xs[xs.length - 1], x + width)), xs, ys);
     // the places of samples that may be the least or the greatest, as the window goes on
     const least = [], most = [];
     let next = 0, leastAt = 0, mostAt = 0;
@@ -149,13 +153,15 @@ const Measures = (() => {
       if (own >= Math.max(from, xs[0]) && own <= Math.min(to, xs[xs.length - 1])) inside.push(at);
     });
     if (inside.length < FEWEST) return null;
-    const at = Float64Array.from(inside, place => times[place] - shift), u = between(at, xs, ys), raw = Float64Array.from(inside, place => given[place]);
+    const at = Float64Array.from(inside, place => times[place] - shift), u = between(at, xs, ys),
+      raw = Float64Array.from(inside, place => given[place]);
     const dot = (a, b) => a.reduce((sum, value, place) => sum + value * b[place], 0);
     const used = factor ?? (dot(raw, raw) ? dot(u, raw) / dot(raw, raw) : 1), v = raw.map(value => value * used);
     const { low, high } = band(xs, ys, at, step), off = v.map((value, place) => Math.max(0, value - high[place], low[place] - value));
     const greatest = peak(v);
     const made = {
-      count: at.length, factor: used, rms: percent(rms(u.map((value, place) => value - v[place])), rms(v)), peak: percent(peak(u) - greatest, greatest),
+      count: at.length, factor: used, rms: percent(rms(u.map((value, place) => value - v[place])), rms(v)),
+        peak: percent(peak(u) - greatest, greatest),
       beyond: percent(peak(off), greatest), share: 100 * off.filter(value => value > tolerance / 100 * greatest).length / off.length,
     };
     return { ...made, within: made.rms <= tolerance && made.beyond <= tolerance, times: at, low, high };
@@ -168,8 +174,10 @@ const Measures = (() => {
     for (const [one, measured, factor] of pairs) {
       const [xs, ys] = known(one.times, one.values), [times, given] = known(measured.times, measured.values);
       if (times.length < 8 || xs.length < 8 || Rules.greatest(ys) === 0 || Rules.greatest(given) === 0) continue;
-      const thin = Math.max(1, Math.floor(times.length / 2000)), kept = Array.from({ length: Math.ceil(times.length / thin) }, (_, at) => at * thin);
-      its.push({ xs, ys, times: Float64Array.from(kept, at => times[at]), values: Float64Array.from(kept, at => given[at] * (factor ?? 1)), free: factor === null });
+      const thin = Math.max(1, Math.floor(times.length / 2000));
+      const kept = Array.from({ length: Math.ceil(times.length / thin) }, (_, at) => at * thin);
+      its.push({ xs, ys, times: Float64Array.from(kept, at => times[at]),
+        values: Float64Array.from(kept, at => given[at] * (factor ?? 1)), free: factor === null });
     }
     if (!its.length) return null;
     const span = xs => xs[xs.length - 1] - xs[0];

@@ -55,7 +55,9 @@ inMenu("forget", () => store.forget());
 inMenu("whole-page", () => save(`${open.name}.html`, new TextEncoder().encode(pageWithCase()), "text/html"));
 inMenu("link", async () => {
   const address = await link.make();
-  const where = location.protocol === "file:" ? " It opens where this page lies at the same place of a disk; a copy of the page with the case in it (More) opens anywhere." : "";
+  const where = location.protocol === "file:"
+    ? " It opens where this page lies at the same place of a disk; a copy of the page with the case in it (More) opens anywhere."
+    : "";
   try {
     await navigator.clipboard.writeText(address);
     say(`The address is copied; it has the whole case in it.${where}`, { stays: Boolean(where) });
@@ -149,7 +151,9 @@ const divider = (() => {
   };
   const before = kept("localStorage", KEY);
   if (before) set(before);
-  for (const [name, value] of [["now", left.clientWidth], ["min", 240], ["max", innerWidth - 320]]) line.setAttribute(`aria-value${name}`, value);
+  line.setAttribute("aria-valuenow", left.clientWidth);
+  line.setAttribute("aria-valuemin", 240);
+  line.setAttribute("aria-valuemax", innerWidth - 320);
   return { set };
 })();
 

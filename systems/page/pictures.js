@@ -46,7 +46,8 @@ const Pictures = (() => {
     const label = `${across}${one.unit && `, ${one.unit}`}`;
     return {
       title: `${up} over ${across}`, kind: "pair", axes: [{ label, unit: one.unit }],
-      panes: [{ unit: other.unit, axis: 0, height: 300, curves: [{ name: up, unit: other.unit, x: one.values, y: other.values, color: 0, loose: true }] }],
+      panes: [{ unit: other.unit, axis: 0, height: 300,
+        curves: [{ name: up, unit: other.unit, x: one.values, y: other.values, color: 0, loose: true }] }],
     };
   }
 
@@ -58,13 +59,15 @@ const Pictures = (() => {
     const made = Measures.spectrum(it.times.subarray(first, last + 1), values), most = Rules.greatest(made.crests);
     const [divisor, unit] = Rules.shownUnit(Rules.baseUnit(channel.unit)[1], most);
     const end = made.crests.findLastIndex(crest => crest >= SEEN * most) + 1;
-    const text = `spectrum of ${name} over ${number(made.length)} s, window of von Hann: crest values, a line each ${number(made.resolution)} Hz`;
+    const how = `window of von Hann: crest values, a line each ${number(made.resolution)} Hz`;
+    const text = `spectrum of ${name} over ${number(made.length)} s, ${how}`;
     return {
       title: made.told ? `${text}; ${made.told}` : text, kind: "spectrum",
       axes: [{ label: "Hz", unit: "Hz", view: [0, made.hertz[Math.min(made.hertz.length - 1, Math.ceil(1.2 * end))]] }],
       panes: [{
         unit, axis: 0, height: 300, curves: [{ name, unit, x: made.hertz, y: made.crests.map(crest => crest / divisor), color: 0 }],
-        marks: Measures.peaks(made).slice(0, TOLD).map(({ hertz, crest }) => ({ x: hertz, y: crest / divisor, text: `${number(hertz)} Hz: ${number(crest / divisor)}` })),
+        marks: Measures.peaks(made).slice(0, TOLD).map(({ hertz, crest }) => ({ x: hertz, y: crest / divisor,
+          text: `${number(hertz)} Hz: ${number(crest / divisor)}` })),
       }],
     };
   }
@@ -73,7 +76,8 @@ const Pictures = (() => {
   function ofScan({ points, resonances }, title, log) {
     const all = Float64Array.from(points, it => it.frequency);
     const curve = (name, unit, color, of) => ({ name, unit, color, x: all, y: Float64Array.from(points, it => it.why ? NaN : of(it)) });
-    const marks = points.filter(it => !it.why && resonances.includes(it.frequency)).map(it => ({ x: it.frequency, y: it.magnitude, text: `${number(it.frequency)} Hz` }));
+    const resonant = points.filter(it => !it.why && resonances.includes(it.frequency));
+    const marks = resonant.map(it => ({ x: it.frequency, y: it.magnitude, text: `${number(it.frequency)} Hz` }));
     return {
       title, kind: "scan", axes: [{ label: "Hz", unit: "Hz", log }],
       panes: [

@@ -24,7 +24,8 @@ const Records = (() => {
     let at = 0;
     const fault = cause => new Error(`line ${at} of the cfg: ${cause}`);
     const next = what => {
-      if (at >= lines.length || at === lines.length - 1 && lines[at].join("").replace("\x1a", "") === "") throw new Error(`line ${at + 1} of the cfg is missing: ${what}`);
+      const isOver = at >= lines.length || at === lines.length - 1 && lines[at].join("").replace("\x1a", "") === "";
+      if (isOver) throw new Error(`line ${at + 1} of the cfg is missing: ${what}`);
       return lines[at++];
     };
     const real = (word, what, blank) => {
@@ -52,14 +53,17 @@ const Records = (() => {
       if (fields.length < (old ? 10 : 13)) throw fault(`an analog channel has ${fields.length} fields, not ${old ? 10 : 13}`);
       const made = {
         name: fields[1] || `analog ${place + 1}`, unit: fields[4], a: real(fields[5], "the multiplier"), b: real(fields[6], "the offset"),
-        skew: real(fields[7], "the skew", 0) * 1e-6, low: real(fields[8], "the range", NaN), high: real(fields[9], "the range", NaN), ratio: 1, line: at,
+        skew: real(fields[7], "the skew", 0) * 1e-6, low: real(fields[8], "the range", NaN),
+          high: real(fields[9], "the range", NaN), ratio: 1, line: at,
       };
       if (old) return made;
-      const [primary, secondary] = [real(fields[10], "the primary side", 0), real(fields[11], "the secondary side", 0)], scaling = fields[12].toUpperCase();
+      const [primary, secondary] = [real(fields[10], "the primary side", 0), real(fields[11], "the secondary side", 0)],
+        scaling = fields[12].toUpperCase();
       if (!["", "P", "S"].includes(scaling)) throw fault(`the channel is ${fields[12]}, neither P (primary) nor S (secondary)`);
       const known = primary > 0 && secondary > 0;
       if (scaling === "S" && !known) throw fault("the channel has secondary values (S), and no ratio to its primary side");
-      if (!scaling && known && primary !== secondary) throw fault("the channel has a ratio, and nothing says whether its values are primary or secondary");
+      const isOpen = !scaling && known && primary !== secondary;
+      if (isOpen) throw fault("the channel has a ratio, and nothing says whether its values are primary or secondary");
       if (scaling === "S") made.ratio = [primary, secondary];
       return made;
     });
@@ -67,7 +71,8 @@ const Records = (() => {
     const frequency = real(next("the line frequency")[0], "the line frequency", NaN);
     const rateCount = whole(next("the number of sampling rates")[0], "the number of sampling rates"), rates = [];
     for (let count = 0; count < Math.max(1, rateCount); count++) {
-      const fields = next("a sampling rate"), hertz = real(fields[0], "the sampling rate"), last = whole(fields[1], "the last sample's number");
+      const fields = next("a sampling rate"), hertz = real(fields[0], "the sampling rate"),
+        last = whole(fields[1], "the last sample's number");
       if (hertz < 0 || last <= (rates.at(-1)?.last ?? 0)) throw fault("the sampling rate or the last sample's number is out of order");
       rates.push({ hertz, last });
     }
@@ -79,18 +84,21 @@ const Records = (() => {
     if (!FORMS.includes(form)) throw fault(`the form of the data is ${form || "blank"}, none of ${FORMS.join(", ")}`);
     // stamps of 2013 are ns where the instants have more than six decimals, else us, times the multiplier
     const fine = year === "2013" && moments.some(it => it > 6);
-    const multiplier = old ? 1 : real(next("the multiplier of the time stamps")[0].replace("\x1a", ""), "the multiplier of the time stamps");
+    const multiplier = old ? 1 : real(next("the multiplier of the time stamps")[0].replace("\x1a", ""),
+      "the multiplier of the time stamps");
     if (!(multiplier > 0)) throw fault("the multiplier of the time stamps has to be above 0");
     const secondary = analog.filter(it => it.ratio !== 1).map(it => it.name);
     if (secondary.length) told.push(`recorded as secondary values, shown as primary: ${secondary.join(", ")}`);
-    return { station: head[0], year, analog, status, frequency, rates, samples: rates.at(-1).last, form, unit: (fine ? 1e-9 : 1e-6) * multiplier, told };
+    return { station: head[0], year, analog, status, frequency, rates, samples: rates.at(-1).last, form,
+      unit: (fine ? 1e-9 : 1e-6) * multiplier, told };
   }
 
   // ---- the samples
 
   // Raw values, states and time stamps (NaN where blank) of a text.
   function readAscii(bytes, { analog, status, samples, year }) {
-    const raw = analog.map(() => new Float64Array(samples)), states = status.map(() => new Uint8Array(samples)), stamps = new Float64Array(samples);
+    const raw = analog.map(() => new Float64Array(samples)), states = status.map(() => new Uint8Array(samples)),
+      stamps = new Float64Array(samples);
     const fields = 2 + analog.length + status.length;
     const gone = analog.map(it => year === "1991" ? 999999 : year === "2013" && it.high > 99999 ? NaN : 99999);
     const put = (sample, field, value) => {
@@ -106,7 +114,8 @@ const Records = (() => {
       if (words.length !== fields) throw new Error(`line ${line} of the dat has ${words.length} fields, and the cfg asks for ${fields}`);
       words.forEach((word, field) => {
         const value = word === "" ? NaN : Number(word), isState = field >= 2 + analog.length;
-        if (Number.isNaN(value) && word.toLowerCase() !== "nan" && word || isState && value !== 0 && value !== 1) throw new Error(`line ${line} of the dat has no number in field ${field + 1}`);
+        const isNone = Number.isNaN(value) && word.toLowerCase() !== "nan" && word;
+        if (isNone || isState && value !== 0 && value !== 1) throw new Error(`line ${line} of the dat has no number in field ${field + 1}`);
         put(sample, field, value);
       });
     };
@@ -148,18 +157,22 @@ const Records = (() => {
   function readBinary(bytes, { analog, status, samples, form }) {
     const wide = form === "BINARY" ? 2 : 4, width = 8 + wide * analog.length + 2 * Math.ceil(status.length / 16);
     if (bytes.length !== samples * width) {
-      throw new Error(`the dat has ${bytes.length.toLocaleString("en")} bytes, and the cfg asks for ${samples} samples of ${width}: one of them is cut, or of another record`);
+      const asked = `the cfg asks for ${samples} samples of ${width}: one of them is cut, or of another record`;
+      throw new Error(`the dat has ${bytes.length.toLocaleString("en")} bytes, and ${asked}`);
     }
     const view = new DataView(bytes.buffer, bytes.byteOffset, bytes.length);
-    const raw = analog.map(() => new Float64Array(samples)), states = status.map(() => new Uint8Array(samples)), stamps = new Float64Array(samples);
+    const raw = analog.map(() => new Float64Array(samples)), states = status.map(() => new Uint8Array(samples)),
+      stamps = new Float64Array(samples);
     for (let sample = 0; sample < samples; sample++) {
       let at = sample * width + 4;
       const stamp = view.getUint32(at, true);
       stamps[sample] = stamp === 0xffffffff ? NaN : stamp;
       at += 4;
       for (const column of raw) {
-        const value = form === "BINARY" ? view.getInt16(at, true) : form === "BINARY32" ? view.getInt32(at, true) : view.getFloat32(at, true);
-        column[sample] = form === "FLOAT32" ? Number.isFinite(value) ? value : NaN : value === (wide === 2 ? -32768 : -2147483648) ? NaN : value;
+        const value = form === "BINARY" ? view.getInt16(at, true) : form === "BINARY32" ? view.getInt32(at, true)
+          : view.getFloat32(at, true);
+        column[sample] = form === "FLOAT32" ? Number.isFinite(value) ? value : NaN
+          : value === (wide === 2 ? -32768 : -2147483648) ? NaN : value;
         at += wide;
       }
       states.forEach((column, place) => { column[sample] = view.getUint16(at + 2 * (place >> 4), true) >> (place & 15) & 1; });

@@ -9,10 +9,13 @@ const results = (() => {
   // ---- the plot
 
   const views = make("select", { id: "kind", "aria-label": "What is drawn of the record" },
-    ...[["time", "over the time"], ["spectrum", "the spectrum of"], ["pair", "one over another:"]].map(([value, textContent]) => make("option", { value, textContent })));
-  const up = make("select", { id: "kind-up", "aria-label": "Channel" }), across = make("select", { id: "kind-across", "aria-label": "over the channel" });
+    make("option", { value: "time", textContent: "over the time" }), make("option", { value: "spectrum", textContent: "the spectrum of" }),
+    make("option", { value: "pair", textContent: "one over another:" }));
+  const up = make("select", { id: "kind-up", "aria-label": "Channel" }),
+    across = make("select", { id: "kind-across", "aria-label": "over the channel" });
   const viewTools = make("span", { class: "many" }, views, up, across);
-  const logarithmic = make("input", { id: "log", type: "checkbox" }), logLabel = make("label", { id: "log-label" }, logarithmic, "logarithmic");
+  const logarithmic = make("input", { id: "log", type: "checkbox" }),
+    logLabel = make("label", { id: "log-label" }, logarithmic, "logarithmic");
   const panel = new Panel($("tab-plot"), { save, name: () => open.name, extra: [viewTools, logLabel, ...references.tools] });
   for (const it of [views, up, across]) it.onchange = () => redraw();
   logarithmic.onchange = () => drawScan(true);
@@ -27,7 +30,9 @@ const results = (() => {
     up.hidden = chosen === "time";
     across.hidden = chosen !== "pair";
     try {
-      const picture = chosen === "spectrum" ? Pictures.ofSpectrum(it, up.value, from, to) : chosen === "pair" ? Pictures.ofPair(it, across.value, up.value, from, to) : Pictures.ofRecord(it, drawn.title);
+      const picture = chosen === "spectrum" ? Pictures.ofSpectrum(it, up.value, from, to)
+        : chosen === "pair" ? Pictures.ofPair(it, across.value, up.value, from, to)
+        : Pictures.ofRecord(it, drawn.title);
       draw(picture, keeps);
     } catch (fault) {
       views.value = "time";
@@ -50,7 +55,9 @@ const results = (() => {
   }
 
   function drawScan(keeps) {
-    if (scanned) draw(Pictures.ofScan(scanned.found, scanned.title, logarithmic.checked && scanned.found.points.every(it => it.frequency > 0)), keeps);
+    if (!scanned) return;
+    const log = logarithmic.checked && scanned.found.points.every(it => it.frequency > 0);
+    draw(Pictures.ofScan(scanned.found, scanned.title, log), keeps);
   }
 
   function draw(picture, keeps = false) {
@@ -124,7 +131,8 @@ const results = (() => {
       if (line) element.dataset.line = line;
       return element;
     });
-    if (lines.length > MOST_LINES) parts.push(make("div", { textContent: `.. and ${lines.length - MOST_LINES} lines more: save them under Files` }));
+    if (lines.length > MOST_LINES) parts.push(make("div",
+      { textContent: `.. and ${lines.length - MOST_LINES} lines more: save them under Files` }));
     $("listing").replaceChildren(...parts);
     follow(editor.place().line);
   }
@@ -148,19 +156,24 @@ const results = (() => {
   };
   function follow(line) {
     if ($("tab-listing").hidden) return;
-    for (const element of $("listing").children) element.classList.toggle("here", element.dataset.line === String(line) && !element.classList.contains("warned"));
+    for (const element of $("listing").children) {
+      element.classList.toggle("here", element.dataset.line === String(line) && !element.classList.contains("warned"));
+    }
   }
 
   // The names of the case's nodes and variables, and its analog channels with their units, by the listing.
   const names = () => [...listing.matchAll(/^(?:node|variable) \d+, name=(\S+)$/gm)].map(it => it[1]);
-  const analogs = () => [...listing.matchAll(/^channel \d+, .*name=(.*), analog channel=\d+$/gm)].map(it => ({ name: it[1], unit: { I: "A", T: "" }[it[1][0]] ?? "V" }));
+  const unitOf = name => ({ I: "A", T: "" })[name[0]] ?? "V";
+  const analogs = () => [...listing.matchAll(/^channel \d+, .*name=(.*), analog channel=\d+$/gm)]
+    .map(([, name]) => ({ name, unit: unitOf(name) }));
   const switches = () => [...listing.matchAll(/^line (\d+), time switch,/gm)].map(it => Number(it[1]));
 
   // ---- the note, the text, the rows and the files
 
   // Of what a note begins with: the section of the manual, and its page.
   const SECTIONS = [
-    [/^(PHASOR )?ENDED/, "The note and the exit status", "record"], [/REFUSED LINE/, "Which cases have one", "phasor"], [/^(AUDIT )?DIFFERS|^AUDIT/, "The first difference", "audit"],
+    [/^(PHASOR )?ENDED/, "The note and the exit status", "record"], [/REFUSED LINE/, "Which cases have one", "phasor"],
+    [/^(AUDIT )?DIFFERS|^AUDIT/, "The first difference", "audit"],
     [/^BAD ROW/, "What is refused", "batch"], [/^BAD CARD/, "Which fault is answered", "cards"],
   ];
 
@@ -194,7 +207,8 @@ const results = (() => {
   }
 
   function listFiles() {
-    const every = [...files, { name: `${open.name}.listing.txt`, bytes: new TextEncoder().encode(listing), what: "what was read of the cards as they stand" }];
+    const every = [...files, { name: `${open.name}.listing.txt`, bytes: new TextEncoder().encode(listing),
+      what: "what was read of the cards as they stand" }];
     tableOf($("files"), ["file", "bytes", "what", ""], every.map(it => {
       const button = make("button", { type: "button", textContent: "Save" });
       button.onclick = () => save(it.name, it.bytes);
@@ -206,30 +220,38 @@ const results = (() => {
   function showRows(channels, rows, name, opened) {
     $("for-rows").hidden = !rows.length;
     if (!rows.length) return;
-    const named = units => [rows[0].head, "how it ended", ...channels.map((it, place) => units[place] ? `${it.name}, ${units[place]}` : it.name)];
+    const nameOf = (it, unit) => unit ? `${it.name}, ${unit}` : it.name;
+    const named = units => [rows[0].head, "how it ended", ...channels.map((it, place) => nameOf(it, units[place]))];
     const scales = channels.map((it, place) => {
-      const [factor, base] = Rules.baseUnit(it.unit), [divisor, unit] = Rules.shownUnit(base, factor * Rules.greatest(rows.map(row => row.peaks[place] ?? 0)));
+      const [factor, base] = Rules.baseUnit(it.unit), most = factor * Rules.greatest(rows.map(row => row.peaks[place] ?? 0));
+      const [divisor, unit] = Rules.shownUnit(base, most);
       return { factor: factor / divisor, unit };
     });
     const told = scales.map(({ factor }, place) => Study.statistics(rows.map(it => it.peaks[place] * factor)));
     const lines = [["greatest", "greatest"], ["at most 2 % exceed", "exceeded"], ["mean", "mean"], ["deviation", "deviation"]]
       .map(([label, key]) => [label, "", ...told.map(it => it ? number(it[key]) : "–")]);
     const table = $("rows-table");
-    tableOf(table, named(scales.map(it => it.unit)), rows.map(it => [it.label, it.how, ...scales.map(({ factor }, place) => number(it.peaks[place] * factor))]), at => opened(rows[at]));
+    tableOf(table, named(scales.map(it => it.unit)),
+      rows.map(it => [it.label, it.how, ...scales.map(({ factor }, place) => number(it.peaks[place] * factor))]),
+      at => opened(rows[at]));
     table.createTFoot().append(...lines.map(cells => make("tr", {}, ...cells.map(text => make("th", { textContent: text })))));
     table.createCaption().textContent = "The greatest magnitude of each channel. A row that is pressed opens and runs.";
     const quoted = text => /[",\n]/.test(text) ? `"${text.replace(/"/g, '""')}"` : text;
-    const csv = [named(channels.map(it => it.unit)), ...rows.map(it => [it.label, it.how, ...channels.map((_, place) => it.words?.[place] ?? String(it.peaks[place] ?? ""))])].map(cells => cells.map(text => quoted(String(text))).join(",")).join("\n") + "\n";
+    const exact = it => channels.map((_, place) => it.words?.[place] ?? it.peaks[place] ?? "");
+    const every = [named(channels.map(it => it.unit)), ...rows.map(it => [it.label, it.how, ...exact(it)])];
+    const csv = every.map(cells => cells.map(text => quoted(String(text))).join(",") + "\n").join("");
     files.push({ name: `${name}.rows.csv`, bytes: new TextEncoder().encode(csv), what: "the rows and their peaks" });
   }
 
-  const openVariant = (it, name, text) => openOther({ name, text, what: "run", base: { text: null }, latin: it.latin, lineEnd: it.lineEnd });
+  const openVariant = (it, name, text) => openOther({ name, text, what: "run", base: { text: null }, latin: it.latin,
+    lineEnd: it.lineEnd });
 
   // Of a summary of many lines, what it comes to.
   function summed(what, { summary }) {
     if (what === "scan") {
       const { points, resonances } = Records.readScan(summary);
-      return `${points.length.toLocaleString("en")} frequencies; ${resonances.length ? `resonances at ${resonances.map(number).join(", ")} Hz` : "no resonance"}.`;
+      const found = resonances.length ? `resonances at ${resonances.map(number).join(", ")} Hz` : "no resonance";
+      return `${points.length.toLocaleString("en")} frequencies; ${found}.`;
     }
     if (what !== "batch") return "";
     const { rows, ended } = Records.readBatch(summary);
@@ -263,11 +285,14 @@ const results = (() => {
     const said = status === 0 ? summed(what, told) : await meaning(call, status, note || summary);
     tellNote(status === 0 ? "good" : "bad", what === "show" ? "" : shown.trimEnd(), said);
     const refused = /REFUSED LINE (\d+)/.exec(note || summary);
-    if (status === 7 && refused) checking.also({ kind: "refused", line: Number(refused[1]), from: 0, to: 0, text: `${what}: ${said.trim().split("\n").at(-1).replace(/\.$/, "") || "refused"}` });
-    $("text").textContent = summary.length + note.length > 300000 ? (summary + note).slice(0, 300000) + "\n.. the rest is in the file" : summary + note;
+    if (status === 7 && refused) checking.also({ kind: "refused", line: Number(refused[1]), from: 0, to: 0,
+      text: `${what}: ${said.trim().split("\n").at(-1).replace(/\.$/, "") || "refused"}` });
+    $("text").textContent = summary.length + note.length > 300000 ? (summary + note).slice(0, 300000)
+      + "\n.. the rest is in the file" : summary + note;
     const phasors = what === "phasor" && status === 0 ? Records.readPhasors(told.note ?? told.summary) : [];
     $("phasors").hidden = !phasors.length;
-    tableOf($("phasors"), ["", "magnitude", "angle in degrees", "real part", "imaginary part"], phasors.map(it => [it.what, ...[it.magnitude, it.angle, it.re, it.im].map(number)]));
+    tableOf($("phasors"), ["", "magnitude", "angle in degrees", "real part", "imaginary part"],
+      phasors.map(it => [it.what, ...[it.magnitude, it.angle, it.re, it.im].map(number)]));
     files = [];
     $("for-rows").hidden = true;
     if (told.cfg) files.push({ name: `${name}.cfg`, bytes: told.cfg, what: "the record's configuration (COMTRADE)" });
@@ -297,7 +322,8 @@ const results = (() => {
     drawn = { made, name: made.name };
     batched = found;
     draw(Pictures.ofBatch(found, channels, `${plainName(made.name)}: peaks`), keeps);
-    showRows(channels.slice(0, found.peaks[0]?.length ?? 0), found.rows.map(it => ({ ...it, head: "row", label: String(it.row) })), made.name, it => {
+    showRows(channels.slice(0, found.peaks[0]?.length ?? 0),
+      found.rows.map(it => ({ ...it, head: "row", label: String(it.row) })), made.name, it => {
       try {
         openVariant(made, `${made.name}_row_${it.row}`, Study.withTimes(made.text.split("\n"), lines, table[it.row - 1]).join("\n"));
       } catch (fault) {
@@ -308,7 +334,8 @@ const results = (() => {
 
   function takeVaried(made, { rows, place, channels }) {
     const label = `columns ${place.from}-${place.to} of line ${place.line}`, bad = rows.filter(it => it.status !== 0);
-    tellNote(bad.length ? "bad" : "good", "", `${rows.length} runs over ${label}; ${bad.length ? `${bad.length} did not run to their ends` : "all ran to their ends"}.`);
+    tellNote(bad.length ? "bad" : "good", "",
+      `${rows.length} runs over ${label}; ${bad.length ? `${bad.length} did not run to their ends` : "all ran to their ends"}.`);
     $("text").textContent = rows.map(it => `${it.value}: ${it.fault ?? it.note}\n`).join("");
     $("phasors").hidden = true;
     files = [];
@@ -351,7 +378,9 @@ const results = (() => {
       drawRecord(parsed, name, null, false);
       choose("for-plot");
       const counted = (count, what) => `${count.toLocaleString("en")} ${what}${count === 1 ? "" : "s"}`;
-      tellNote("", "", [`${name}: ${counted(parsed.times.length, "sample")}, ${counted(parsed.channels.length, "channel")}, ${counted(parsed.states.length, "state")}`, ...parsed.told].join("\n"));
+      const { times, channels, states } = parsed;
+      const held = [counted(times.length, "sample"), counted(channels.length, "channel"), counted(states.length, "state")];
+      tellNote("", "", [`${name}: ${held.join(", ")}`, ...parsed.told].join("\n"));
     },
   };
 })();

@@ -51,7 +51,8 @@ function asked() {
     case "vary": return {};
     default: {
       const record = open.given?.dat ? open.given : results.record;
-      if (record) return { words: ["audit", "case", "cfg", "dat"], files: [...files, { name: "cfg", bytes: record.cfg.bytes }, { name: "dat", bytes: record.dat.bytes }] };
+      if (record) return { words: ["audit", "case", "cfg", "dat"], files: [...files, { name: "cfg", bytes: record.cfg.bytes },
+        { name: "dat", bytes: record.dat.bytes }] };
       say("An audit compares a record with the case: open its cfg and dat, or run the case first.");
       $("file").click();
       return null;
@@ -67,7 +68,8 @@ async function run(byItself = false) {
   if (!call) return;
   const made = { ...caseNow(), latin: open.latin, lineEnd: open.lineEnd };
   busy(true, made.what === "show" ? "reading" : "running");
-  const told = made.what === "vary" ? await varying() : made.what === "batch" ? await inParts(call) : await (tellLeft(call, made), running.call(call));
+  const told = made.what === "vary" ? await varying() : made.what === "batch" ? await inParts(call)
+    : await (tellLeft(call, made), running.call(call));
   previewing.stop();
   if (!told) return;
   const took = seconds();
@@ -81,7 +83,8 @@ async function run(byItself = false) {
 // The cards of a case that ends after a part of its time; null where its card of times can't be told.
 function shortened(lines, part) {
   const line = lines.findIndex((_, at) => editor.kind(at + 1)[0] === "the first miscellaneous card");
-  const card = lines[line]?.padEnd(16), [step, end] = card ? [card.slice(0, 8), card.slice(8, 16)].map(it => Number(it.replace(/d/i, "E"))) : [];
+  const card = lines[line]?.padEnd(16), [step, end] = card
+    ? [card.slice(0, 8), card.slice(8, 16)].map(it => Number(it.replace(/d/i, "E"))) : [];
   if (!(end * part >= 20 * step)) return null;
   const text = (end * part).toExponential(2).replace("e", "E").padStart(8);
   return [...lines.slice(0, line), card.slice(0, 8) + text.slice(-8) + card.slice(16), ...lines.slice(line + 1)].join("\n");
@@ -123,8 +126,10 @@ async function together(calls, what) {
 async function inParts(call) {
   const MOST_AT_ONCE = 100_000; // steps
   const rows = Study.rowsOf($("times").value), workers = navigator.hardwareConcurrency || 2;
-  if (workers < 2 || rows.length < 8 || rows.length > 1000 || rows.length * stepsOf(results.listing) < MOST_AT_ONCE) return running.call(call);
-  const calls = Study.parts(rows, workers).map(some => () => ({ words: call.words, files: [call.files[0], inputOf("times", some.map(it => it + "\n").join(""))] }));
+  const steps = rows.length * stepsOf(results.listing);
+  if (workers < 2 || rows.length < 8 || rows.length > 1000 || steps < MOST_AT_ONCE) return running.call(call);
+  const calls = Study.parts(rows, workers).map(some => () => ({ words: call.words,
+    files: [call.files[0], inputOf("times", some.map(it => it + "\n").join(""))] }));
   const told = await together(calls, "parts");
   if (!told) return null;
   if (told.some(it => it.fault || it.status !== 0)) return running.call(call);
@@ -150,7 +155,8 @@ async function varying() {
     value: values[at], text: texts[at], fault: it.fault, status: it.status, note: it.note ? Records.text(it.note).trim() : "",
     peaks: it.record?.channels.map(channel => Study.peak(channel.values)) ?? [],
   }));
-  return { status: 0, varied: { rows, place, channels: told.find(it => it.record)?.record.channels.map(({ name, unit }) => ({ name, unit })) ?? [] } };
+  return { status: 0, varied: { rows, place,
+    channels: told.find(it => it.record)?.record.channels.map(({ name, unit }) => ({ name, unit })) ?? [] } };
 }
 
 // The field under the cursor is the one that is varied.
@@ -169,8 +175,10 @@ function takeField() {
 function writeTable() {
   const count = results.switches().length, number = id => Number($(id).value);
   if (!count) return say("The case has no time switch.");
-  const words = { rows: number("scatter-rows"), seed: number("scatter-seed"), begin: number("scatter-from"), cycle: number("scatter-cycle"), sigma: number("scatter-sigma"), count };
-  if (!Object.values(words).every(it => Number.isFinite(it) && it >= 0) || words.rows < 1 || words.rows > 1000) return say("A table has 1 to 1,000 rows, and no time below 0.");
+  const words = { rows: number("scatter-rows"), seed: number("scatter-seed"), begin: number("scatter-from"),
+    cycle: number("scatter-cycle"), sigma: number("scatter-sigma"), count };
+  const isRight = Object.values(words).every(it => Number.isFinite(it) && it >= 0) && words.rows >= 1 && words.rows <= 1000;
+  if (!isRight) return say("A table has 1 to 1,000 rows, and no time below 0.");
   const head = `# ${words.rows} rows, from ${words.begin} s on over ${words.cycle} s, deviation ${words.sigma} s, seed ${words.seed}`;
   $("times").value = [head, ...Study.scattered(words)].join("\n") + "\n";
   store.soon();

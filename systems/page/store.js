@@ -94,10 +94,12 @@ document.addEventListener("visibilitychange", () => { if (document.hidden) store
 // The list of examples and kept cases.
 function listCases() {
   const group = (label, items, kind) => items.length
-    ? make("optgroup", { label }, ...items.map(it => make("option", { value: `${kind} ${it.name}`, textContent: plainName(it.name), title: it.about ?? "" })))
+    ? make("optgroup", { label }, ...items.map(it => make("option", { value: `${kind} ${it.name}`,
+      textContent: plainName(it.name), title: it.about ?? "" })))
     : null;
   const cases = Object.keys(store.all()).sort().map(name => ({ name })), groups = new Set(EXAMPLES.map(it => it.group));
-  const parts = [group("Kept here", cases, "kept"), ...[...groups].map(label => group(label, EXAMPLES.filter(it => it.group === label), "example"))];
+  const parts = [group("Kept here", cases, "kept"),
+    ...[...groups].map(label => group(label, EXAMPLES.filter(it => it.group === label), "example"))];
   const here = `${open.example ? "example" : open.kept ? "kept" : "open"} ${open.name}`;
   if (!open.example && !open.kept) parts.unshift(group("Open", [open], "open"));
   $("cases").replaceChildren(...parts.filter(Boolean));
@@ -108,7 +110,8 @@ function listCases() {
 function openExample(name, runs) {
   const it = EXAMPLES.find(it => it.name === name);
   if (!it) return false;
-  const given = it.cfg && { cfg: { name: `${name}.cfg`, bytes: new TextEncoder().encode(it.cfg) }, dat: { name: `${name}.dat`, bytes: new TextEncoder().encode(it.dat) } };
+  const given = it.cfg && { cfg: { name: `${name}.cfg`, bytes: new TextEncoder().encode(it.cfg) },
+    dat: { name: `${name}.dat`, bytes: new TextEncoder().encode(it.dat) } };
   openCase({ ...it, example: name, given }, runs);
   return true;
 }
@@ -125,7 +128,8 @@ function openKept(name) {
 function openOther(it) {
   store.keep();
   const cases = store.all(), text = it.text.replace(/\r\n/g, "\n");
-  if (cases[it.name]?.text === text && (cases[it.name].times ?? "") === (it.times ?? "")) return openCase({ ...it, kept: true, hash: "" }, true);
+  const isKept = cases[it.name]?.text === text && (cases[it.name].times ?? "") === (it.times ?? "");
+  if (isKept) return openCase({ ...it, kept: true, hash: "" }, true);
   const name = freeName(it.name, cases);
   openCase({ ...it, name }, true);
   if (name !== it.name) say(`Another case is kept as ${it.name}, so this one is ${name}.`);

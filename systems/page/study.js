@@ -56,7 +56,8 @@ const Study = (() => {
     const range = /^\s*(\S+)\s+to\s+(\S+)\s+by\s+(\S+)\s*$/i.exec(text);
     if (range) {
       const [from, to, by] = range.slice(1).map(Number);
-      if (![from, to, by].every(Number.isFinite) || !(by * (to - from) >= 0) || by === 0) throw new Error(`${text.trim()} is no range of values`);
+      const isRange = [from, to, by].every(Number.isFinite) && by !== 0 && by * (to - from) >= 0;
+      if (!isRange) throw new Error(`${text.trim()} is no range of values`);
       const count = Math.floor((to - from) / by * (1 + 1e-12) + 1e-9) + 1;
       if (count > 1000) throw new Error(`${count.toLocaleString("en")} values are more than 1,000`);
       return Array.from({ length: count }, (_, at) => String(Number((from + at * by).toPrecision(10))));
@@ -87,7 +88,8 @@ const Study = (() => {
     if (!count) return null;
     const mean = ranked.reduce((sum, value) => sum + value, 0) / count;
     const squares = ranked.reduce((sum, value) => sum + (value - mean) ** 2, 0);
-    return { count, mean, deviation: count > 1 ? Math.sqrt(squares / (count - 1)) : 0, exceeded: Rules.notExceeded(ranked), greatest: ranked[count - 1] };
+    return { count, mean, deviation: count > 1 ? Math.sqrt(squares / (count - 1)) : 0, exceeded: Rules.notExceeded(ranked),
+      greatest: ranked[count - 1] };
   }
 
   // The lines of a case with the times of a row of a table on the cards of its time switches, which stand on the lines `switches`.

@@ -3,7 +3,8 @@
 // Each is a function that throws where something isn't so; systems/units runs them in a browser.
 const TESTS = (() => {
   const same = (found, wanted, what = "") => {
-    const [a, b] = [found, wanted].map(it => JSON.stringify(it, (_, value) => ArrayBuffer.isView(value) ? [...value] : value === undefined ? "nothing" : value));
+    const [a, b] = [found, wanted].map(it => JSON.stringify(it, (_, value) => ArrayBuffer.isView(value) ? [...value]
+      : value === undefined ? "nothing" : value));
     if (a !== b) throw new Error(`${what} ${a.slice(0, 300)} and not ${b.slice(0, 300)}`);
   };
   const near = (found, wanted, within, what = "") => {
@@ -48,7 +49,8 @@ const TESTS = (() => {
     "thinning keeps each peak": () => {
       const plot = Object.create(Plot.prototype);
       plot.columns = new WeakMap();
-      const x = Float64Array.from({ length: 10000 }, (_, at) => at), y = x.map(at => at === 4321 ? 7 : at === 8765 ? -9 : at === 5000 ? NaN : Math.sin(at));
+      const x = Float64Array.from({ length: 10000 }, (_, at) => at), y = x.map(at => at === 4321 ? 7 : at === 8765 ? -9
+        : at === 5000 ? NaN : Math.sin(at));
       const thin = plot.thinned(x, y, { from: 0, to: 9999 }, 100);
       same([Math.max(...thin.high.subarray(0, thin.count)), Math.min(...thin.low.subarray(0, thin.count))], [7, -9]);
       same(thin.count <= 103, true);
@@ -93,7 +95,8 @@ const TESTS = (() => {
       near(it.angle, -53.13010235415598, 1e-9);
     },
     "a spectrum shows a sine by its crest": () => {
-      const times = Float64Array.from({ length: 1500 }, (_, at) => at * 1e-4), values = times.map(time => 7 * Math.cos(2 * Math.PI * 123.4 * time + 1) + 2);
+      const times = Float64Array.from({ length: 1500 }, (_, at) => at * 1e-4),
+        values = times.map(time => 7 * Math.cos(2 * Math.PI * 123.4 * time + 1) + 2);
       const made = Measures.spectrum(times, values), [first] = Measures.peaks(made);
       near(made.crests[0], 2, 0.01);
       near(first.hertz, 123.4, 0.1);
@@ -104,7 +107,10 @@ const TESTS = (() => {
       const values = Float64Array.from({ length: 35 }, (_, at) => Math.sin(at * at) + at), found = Measures.magnitudes(values);
       for (let line = 0; line < found.length; line++) {
         let re = 0, im = 0;
-        values.forEach((value, at) => { re += value * Math.cos(2 * Math.PI * line * at / 35); im += value * Math.sin(2 * Math.PI * line * at / 35); });
+        values.forEach((value, at) => {
+          re += value * Math.cos(2 * Math.PI * line * at / 35);
+          im += value * Math.sin(2 * Math.PI * line * at / 35);
+        });
         near(found[line], Math.hypot(re, im), 1e-9, `line ${line}`);
       }
     },
@@ -124,21 +130,25 @@ const TESTS = (() => {
     },
     "a shift is found": () => {
       const wave = time => Math.exp(-((time - 0.05) ** 2) / 1e-5) * Math.sin(900 * time);
-      const own = Float64Array.from({ length: 1001 }, (_, at) => at * 1e-4), other = Float64Array.from({ length: 400 }, (_, at) => 0.02 + at * 2e-4);
-      const found = Measures.fitted([[{ times: own, values: own.map(wave) }, { times: other, values: other.map(time => wave(time - 0.0123)) }, 1]]);
+      const own = Float64Array.from({ length: 1001 }, (_, at) => at * 1e-4),
+        other = Float64Array.from({ length: 400 }, (_, at) => 0.02 + at * 2e-4);
+      const found = Measures.fitted([[{ times: own, values: own.map(wave) },
+        { times: other, values: other.map(time => wave(time - 0.0123)) }, 1]]);
       near(found, 0.0123, 2e-6);
     },
     "a table of scattered times": () => {
       const words = { rows: 2000, seed: 7, begin: 0.1, cycle: 0.02, sigma: 0.001, count: 3 }, lines = Study.scattered(words);
       same(lines, Study.scattered(words), "equal seeds");
       same(lines.join() === Study.scattered({ ...words, seed: 8 }).join(), false, "other seeds");
-      const closing = lines.map(line => line.split(" ").filter(word => word !== "*").map(Number)), means = closing.map(row => (row[0] + row[1] + row[2]) / 3);
+      const closing = lines.map(line => line.split(" ").filter(word => word !== "*").map(Number)),
+        means = closing.map(row => (row[0] + row[1] + row[2]) / 3);
       near(means.reduce((a, b) => a + b) / 2000, 0.11, 0.001, "the mean of the common time");
       const apart = closing.map(row => row[0] - row[1]), spread = Math.sqrt(apart.reduce((sum, value) => sum + value * value, 0) / 2000);
       near(spread, 0.001 * Math.SQRT2, 0.0001, "the deviation between two poles");
     },
     "parts of a batch are joined": () => {
-      const parts = ["ROW 1 DONE PEAKS 75 2\nROW 2 DONE PEAKS 125 1\nMAX 1 125 ROW 2\nMAX 2 2 ROW 1\n", "ROW 1 ENDED STEP 4 RANGE BUS PEAKS 125 9.5\nMAX 1 125 ROW 1\nMAX 2 9.5 ROW 1\n"];
+      const parts = ["ROW 1 DONE PEAKS 75 2\nROW 2 DONE PEAKS 125 1\nMAX 1 125 ROW 2\nMAX 2 2 ROW 1\n",
+        "ROW 1 ENDED STEP 4 RANGE BUS PEAKS 125 9.5\nMAX 1 125 ROW 1\nMAX 2 9.5 ROW 1\n"];
       same(Study.joined(parts), "ROW 1 DONE PEAKS 75 2\nROW 2 DONE PEAKS 125 1\nROW 3 ENDED STEP 4 RANGE BUS PEAKS 125 9.5\nMAX 1 125 ROW 2\nMAX 2 9.5 ROW 3\n");
       same(Study.parts([1, 2, 3, 4, 5], 1), [[1, 2], [3, 4], [5]]);
       same(Study.rowsOf("# a\n\n 1. 2.\n   \n* -\n"), [" 1. 2.", "* -"]);
@@ -176,7 +186,8 @@ const TESTS = (() => {
     "fixes of a refused card": () => {
       const labels = (lines, refusal, names = []) => Fixes.of(lines, refusal, names).map(it => it.label);
       same(labels(["14src   1."], { line: 1, from: 3, to: 8 }, ["SRC"])[0], "write SRC for src");
-      same(Fixes.of(["  A      x1."], { line: 1, from: 10, to: 14 }, []).find(it => it.label === "move it 1 column to the left").lines, ["  A     x1."]);
+      same(Fixes.of(["  A      x1."], { line: 1, from: 10, to: 14 },
+        []).find(it => it.label === "move it 1 column to the left").lines, ["  A     x1."]);
       same(labels(["S  L"], { line: 1, from: 0, to: 0 }), ["put BLANK above it"]);
     },
     "the manual's pages": () => {
@@ -191,11 +202,14 @@ const TESTS = (() => {
       same(Markdown.matching(Markdown.sections("p", text), "code").map(it => it.title), ["Two"]);
     },
     "a record of volts, states and references": () => {
-      const times = Float64Array.of(0, 0.001, 0.002), record = { times, channels: [{ name: "V", unit: "V", values: Float64Array.of(0, 2000, -1) }], states: [{ name: "S", values: Uint8Array.of(0, 1, 1) }] };
+      const times = Float64Array.of(0, 0.001, 0.002),
+        record = { times, channels: [{ name: "V", unit: "V", values: Float64Array.of(0, 2000, -1) }],
+        states: [{ name: "S", values: Uint8Array.of(0, 1, 1) }] };
       const picture = Pictures.ofRecord(record, "title");
       same(picture.panes.map(pane => pane.unit ?? "bars"), ["kV", "bars"]);
       same(picture.axes[0].unit, "ms");
-      Pictures.putBehind(picture, [{ record: { times: Float64Array.of(0, 1), channels: [{ name: "V", unit: "kV", values: Float64Array.of(1, 2) }] }, offset: 0.5 }]);
+      Pictures.putBehind(picture, [{ record: { times: Float64Array.of(0, 1),
+        channels: [{ name: "V", unit: "kV", values: Float64Array.of(1, 2) }] }, offset: 0.5 }]);
       same(picture.panes[0].curves[0].behind, [{ x: [500, 1500], y: [1, 2] }]);
     },
   };

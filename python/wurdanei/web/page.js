@@ -4,7 +4,8 @@
   const drawing = JSON.parse(document.getElementById("drawing").textContent);
   const unpacked = (text, Kind) => new Kind(Uint8Array.from(atob(text), letter => letter.charCodeAt(0)).buffer);
   // an even grid is three numbers
-  const xs = drawing.xs.map(it => typeof it === "string" ? unpacked(it, Float64Array) : Float64Array.from({ length: it.count }, (_, at) => it.first + at * it.step));
+  const xs = drawing.xs.map(it => typeof it === "string" ? unpacked(it, Float64Array)
+    : Float64Array.from({ length: it.count }, (_, at) => it.first + at * it.step));
   for (const pane of drawing.picture.panes) {
     for (const it of [...pane.curves ?? pane.bars, ...pane.bands ?? []]) {
       it.x = xs[it.x];

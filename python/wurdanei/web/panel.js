@@ -38,7 +38,8 @@ class Panel {
     ];
     this.tools[1].setAttribute("aria-label", "Zoom in");
     this.tools[2].setAttribute("aria-label", "Zoom out");
-    this.filter = make("input", { id: "filter", type: "search", placeholder: "channels", "aria-label": "Draw the channels whose names have this" });
+    this.filter = make("input", { id: "filter", type: "search", placeholder: "channels",
+      "aria-label": "Draw the channels whose names have this" });
     this.filter.oninput = () => this.showOnly(it => it.name.toLowerCase().includes(this.filter.value.trim().toLowerCase()));
     this.many = make("span", { class: "many" },
       button("every", "all", "Draw all channels", () => this.showOnly(() => true)),
@@ -137,7 +138,8 @@ class Panel {
       return;
     }
     this.table.className = batch ? "batch" : "no-cursor no-mark";
-    const heads = ["channel", "unit", ...(batch ? ["half of the rows up to", "at most 2 % exceed", "greatest", "in row"] : ["at the cursor", "from the mark", "less the reference", "least", "greatest"])];
+    const heads = ["channel", "unit", ...(batch ? ["half of the rows up to", "at most 2 % exceed", "greatest", "in row"]
+      : ["at the cursor", "from the mark", "less the reference", "least", "greatest"])];
     const body = [];
     for (const pane of picture.panes) {
       for (const it of pane.curves ?? pane.bars) {
@@ -150,7 +152,8 @@ class Panel {
         only.onclick = () => this.isolate(it);
         const cells = heads.slice(1).map(() => make("td"));
         // values under the cursor stand in boxes of their own size, so that the table isn't laid out anew as they change
-        const values = batch ? [] : cells.slice(1, 4).map(cell => cell.appendChild(make("span", { class: "value" }, document.createTextNode(""))).firstChild);
+        const valueIn = cell => cell.appendChild(make("span", { class: "value" }, document.createTextNode(""))).firstChild;
+        const values = batch ? [] : cells.slice(1, 4).map(valueIn);
         cells[0].textContent = batch ? picture.axes[pane.axis].unit : pane.bars ? "state" : it.unit;
         if (batch) it.told.forEach((value, place) => { cells[1 + place].textContent = number(value); });
         const row = make("tr", {}, make("td", {}, make("label", { class: "pick" }, box, Panel.swatch(it, pane)), only), ...cells);
@@ -160,14 +163,16 @@ class Panel {
         body.push(row);
       }
     }
-    this.table.replaceChildren(make("thead", {}, make("tr", {}, ...heads.map(text => make("th", { textContent: text, scope: "col" })))), make("tbody", {}, ...body));
+    const head = make("tr", {}, ...heads.map(text => make("th", { textContent: text, scope: "col" })));
+    this.table.replaceChildren(make("thead", {}, head), make("tbody", {}, ...body));
     this.tellReference();
     this.tellExtremes();
   }
 
   // The line of a curve as a border, which is printed too.
   static swatch(it, pane) {
-    const made = make("span", { class: `color ${pane.bars ? "bar" : ["", "dashed", "dotted", "double"][Plot.DASHES.indexOf(Plot.dashOf(it))]}` });
+    const kind = pane.bars ? "bar" : ["", "dashed", "dotted", "double"][Plot.DASHES.indexOf(Plot.dashOf(it))];
+    const made = make("span", { class: `color ${kind}` });
     made.style.borderTopColor = `var(--c${it.color % Plot.COLORS})`;
     return made;
   }
@@ -243,14 +248,18 @@ class Panel {
     if (!at || pane.axis !== at.axis || it.loose || it.shown === false) return ["", "", ""];
     const value = (xs, ys, x) => { const found = Plot.nearest(xs, x); return found < 0 ? NaN : ys[found]; };
     const here = value(it.x, it.y ?? it.values, at.x), first = it.behind?.[0];
-    return [number(here), at.mark !== null && it.y ? number(here - value(it.x, it.y, at.mark)) : "", first ? number(here - value(first.x, first.y, at.x)) : ""];
+    const apart = at.mark !== null && it.y ? number(here - value(it.x, it.y, at.mark)) : "";
+    return [number(here), apart, first ? number(here - value(first.x, first.y, at.x)) : ""];
   }
 
   // Fills in the values of the rows that are seen.
   tellValues() {
     if (!this.rows.length || this.picture?.kind === "batch") return;
-    const LOW = 24, HIGH = 40, first = Math.floor(this.top / HIGH) - 1, last = Math.ceil((this.top + this.seen) / LOW) + 1; // rows by their heights
-    for (const row of this.rows.slice(Math.max(0, first), last)) this.valuesOf(row).forEach((text, place) => Panel.put(row.values[place], text));
+    const LOW = 24, HIGH = 40; // between these a row is high
+    const first = Math.max(0, Math.floor(this.top / HIGH) - 1), last = Math.ceil((this.top + this.seen) / LOW) + 1;
+    for (const row of this.rows.slice(first, last)) {
+      this.valuesOf(row).forEach((text, place) => Panel.put(row.values[place], text));
+    }
   }
 
   // Puts a text into a node of text, where it is another one.
@@ -274,7 +283,8 @@ class Panel {
 
   static csv(axis, items) {
     const quoted = text => /[",\n]/.test(text) ? `"${text.replace(/"/g, '""')}"` : text;
-    const xs = items[0]?.x ?? [], lines = [[axis.unit, ...items.map(it => it.unit ? `${it.name} in ${it.unit}` : it.name)].map(quoted).join(",")];
+    const named = it => it.unit ? `${it.name} in ${it.unit}` : it.name;
+    const xs = items[0]?.x ?? [], lines = [[axis.unit, ...items.map(named)].map(quoted).join(",")];
     for (let at = 0; at < xs.length; at++) {
       if (xs[at] < axis.from || xs[at] > axis.to) continue;
       const values = items.map(it => {

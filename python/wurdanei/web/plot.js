@@ -47,8 +47,9 @@ class Plot {
         axis.from = Math.max(axis.least, old.from);
         axis.to = Math.min(axis.most, old.to);
       }
-      if (!old || this.isWhole(old) || old.unit !== axis.unit || !(axis.from < axis.to)) [axis.from, axis.to] = axis.view ?? [axis.least, axis.most];
-      else if (mark?.axis === place && mark.x <= axis.most) this.mark = mark;
+      if (!old || this.isWhole(old) || old.unit !== axis.unit || !(axis.from < axis.to)) {
+        [axis.from, axis.to] = axis.view ?? [axis.least, axis.most];
+      } else if (mark?.axis === place && mark.x <= axis.most) this.mark = mark;
     });
     this.tell();
     this.redraw();
@@ -298,7 +299,8 @@ class Plot {
         const pane = this.picture.panes.find(it => it.axis === place);
         const xs = (pane.curves ?? pane.bars)[0]?.x ?? [];
         const by = event.key === "ArrowLeft" ? -1 : 1;
-        const next = event.shiftKey ? Plot.at(axis, Plot.share(axis, x) + by / 20) : xs[Math.min(xs.length - 1, Math.max(0, Plot.nearest(xs, x) + by))];
+        const next = event.shiftKey ? Plot.at(axis, Plot.share(axis, x) + by / 20)
+          : xs[Math.min(xs.length - 1, Math.max(0, Plot.nearest(xs, x) + by))];
         if (next < axis.from || next > axis.to) this.pan(axis, by / 4);
         this.setCursor(place, next);
         return true;
@@ -307,9 +309,19 @@ class Plot {
       case "-": this.zoom(axis, x, 2); return true;
       case "PageUp": this.pan(axis, -0.5); return true;
       case "PageDown": this.pan(axis, 0.5); return true;
-      case "Home": this.pan(axis, -Plot.share(axis, axis.from) + Plot.share(axis, axis.least)); this.setCursor(place, axis.least); return true;
-      case "End": this.pan(axis, Plot.share(axis, axis.most) - 1); this.setCursor(place, axis.most); return true;
-      case "*": case "/": for (const area of this.areas) if (area.axis === place) this.zoomValues(area, (area.low + area.high) / 2, event.key === "*" ? 0.5 : 2); return true;
+      case "Home":
+        this.pan(axis, Plot.share(axis, axis.least));
+        this.setCursor(place, axis.least);
+        return true;
+      case "End":
+        this.pan(axis, Plot.share(axis, axis.most) - 1);
+        this.setCursor(place, axis.most);
+        return true;
+      case "*": case "/":
+        for (const area of this.areas.filter(it => it.axis === place)) {
+          this.zoomValues(area, (area.low + area.high) / 2, event.key === "*" ? 0.5 : 2);
+        }
+        return true;
       case "0": this.reset(); return true;
       case "m": if (this.cursor) this.toggleMark(); return true;
       default: return false;
@@ -379,7 +391,8 @@ class Plot {
   static height(picture) {
     const own = picture.panes.filter((pane, place) => picture.panes[place + 1]?.axis !== pane.axis).length;
     const shown = bars => bars.filter(it => it.shown !== false).length;
-    return picture.panes.filter(Plot.isShown).reduce((sum, pane) => sum + (pane.bars ? 10 + 20 * shown(pane.bars) : Plot.LEGEND + 0.5 * (pane.height ?? 130)) + Plot.GAP, 4 + 30 * own);
+    const high = pane => pane.bars ? 10 + 20 * shown(pane.bars) : Plot.LEGEND + 0.5 * (pane.height ?? 130);
+    return picture.panes.filter(Plot.isShown).reduce((sum, pane) => sum + high(pane) + Plot.GAP, 4 + 30 * own);
   }
 
   // A pane with something to draw.
@@ -416,13 +429,16 @@ class Plot {
   layout(to, width, height) {
     const { axes } = this.picture, panes = this.picture.panes.filter(Plot.isShown);
     const own = panes.map((pane, place) => place === panes.length - 1 || panes[place + 1].axis !== pane.axis);
-    const areas = panes.map((pane, place) => ({ pane, axis: pane.axis, own: own[place], legend: this.legend(to, pane, width), bars: pane.bars?.filter(it => it.shown !== false) }));
-    const fixed = areas.reduce((sum, it) => sum + it.legend.height + Plot.GAP + (it.own ? 30 : 0) + (it.bars ? 20 * it.bars.length + 6 : 0), 4);
+    const areas = panes.map((pane, place) => ({ pane, axis: pane.axis, own: own[place], legend: this.legend(to, pane, width),
+      bars: pane.bars?.filter(it => it.shown !== false) }));
+    const fixed = areas.reduce((sum, it) => sum + it.legend.height + Plot.GAP + (it.own ? 30 : 0)
+      + (it.bars ? 20 * it.bars.length + 6 : 0), 4);
     const shares = panes.reduce((sum, pane) => sum + (pane.bars ? 0 : pane.height ?? 130), 0) || 1;
     let left = 0, top = 2;
     for (const area of areas) {
       area.top = top + area.legend.height;
-      area.bottom = area.top + (area.bars ? 20 * area.bars.length + 6 : Math.max(40, (height - fixed) * (area.pane.height ?? 130) / shares));
+      area.bottom = area.top + (area.bars ? 20 * area.bars.length + 6
+        : Math.max(40, (height - fixed) * (area.pane.height ?? 130) / shares));
       top = area.bottom + Plot.GAP + (area.own ? 30 : 0);
       if (area.bars) {
         left = Math.max(left, ...area.bars.map(it => Math.min(110, to.measureText(it.name).width)));
@@ -502,7 +518,8 @@ class Plot {
     const kept = this.columns.get(y), key = `${axis.from} ${axis.to} ${axis.log} ${width}`;
     if (kept?.key === key) return kept;
     const [first, last] = Plot.visible(x, axis.from, axis.to), most = Math.ceil(width) + 3;
-    const made = { key, count: 0, place: new Float64Array(most), begin: new Float64Array(most), low: new Float64Array(most), high: new Float64Array(most), end: new Float64Array(most) };
+    const made = { key, count: 0, place: new Float64Array(most), begin: new Float64Array(most), low: new Float64Array(most),
+      high: new Float64Array(most), end: new Float64Array(most) };
     const scale = width / (axis.to - axis.from), { from, log } = axis;
     let column = -2, at = -1;
     for (let sample = first; sample <= last; sample++) {
@@ -542,7 +559,9 @@ class Plot {
     const rough = (high - low) / Math.max(1, count), power = 10 ** Math.floor(Math.log10(rough));
     const step = [1, 2, 5, 10].find(it => it * power >= rough * 0.999) * power;
     const found = [];
-    for (let n = Math.ceil(low / step - 1e-9); n * step <= high + step * 1e-9; n++) found.push({ value: n * step, text: Plot.text(n * step, step) });
+    for (let n = Math.ceil(low / step - 1e-9); n * step <= high + step * 1e-9; n++) {
+      found.push({ value: n * step, text: Plot.text(n * step, step) });
+    }
     return found;
   }
 
@@ -599,7 +618,8 @@ class Plot {
     to.textAlign = "center";
     let free = -Infinity;
     for (const { value, text } of ticks) {
-      const half = to.measureText(text).width / 2, x = Math.min(Math.max(across(value), area.left + half - 4), area.left + area.width - half + 4);
+      const half = to.measureText(text).width / 2, most = area.left + area.width - half + 4;
+      const x = Math.min(Math.max(across(value), area.left + half - 4), most);
       if (x - half < free) continue;
       to.fillText(text, x, area.bottom + 11);
       free = x + half + 8;
@@ -608,7 +628,8 @@ class Plot {
   }
 
   up(area, value) {
-    if (area.pane.log) return area.bottom - Math.log(Math.max(value, 1e-300) / area.low) / Math.log(area.high / area.low) * (area.bottom - area.top);
+    const high = area.bottom - area.top;
+    if (area.pane.log) return area.bottom - Math.log(Math.max(value, 1e-300) / area.low) / Math.log(area.high / area.low) * high;
     return area.bottom - (value - area.low) / (area.high - area.low) * (area.bottom - area.top);
   }
 
@@ -696,7 +717,10 @@ class Plot {
     }
     [lower, upper] = [lower, upper].map(it => it.filter(([, value]) => Number.isFinite(value)));
     to.beginPath();
-    [...upper, ...lower.reverse()].forEach(([place, value], at) => at ? to.lineTo(place, this.up(area, value)) : to.moveTo(place, this.up(area, value)));
+    [...upper, ...lower.reverse()].forEach(([place, value], at) => {
+      if (at) to.lineTo(place, this.up(area, value));
+      else to.moveTo(place, this.up(area, value));
+    });
     to.fillStyle = theme.colors[color % theme.colors.length];
     to.globalAlpha = 0.22;
     to.fill();

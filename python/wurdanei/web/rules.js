@@ -55,7 +55,8 @@ const Rules = (rules => {
   // How many of the other curves lie over this one for much of its time, so that it has to be drawn apart from them. All are
   // `sampled`, at the same times.
   function lying({ some, spread }, others) {
-    const count = some.length, wanted = rules.overlap * count, near = rules.near * (others.reduce((most, it) => Math.max(most, it.spread), spread) || 1);
+    const count = some.length, wanted = rules.overlap * count,
+      near = rules.near * (others.reduce((most, it) => Math.max(most, it.spread), spread) || 1);
     return count && others.filter(other => {
       let same = 0;
       for (let at = 0; at < count && same < wanted; at++) if (Math.abs(some[at] - other.some[at]) <= near) same++;
