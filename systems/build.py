@@ -5,17 +5,18 @@
     systems/build.py systems FOLDER   emtp.exe (Windows), emtp-aarch64 and emtp-x86_64 (Linux, static)
     systems/build.py anew FILE        emtp.html once more, of its parts as they stand and the module that is in it
     systems/build.py same FILE        whether emtp.html is that
+    systems/build.py proved FILE      whether its module is that of the library, behind `rt ci` in a fresh checkout
 
 The first two begin with the LLVM module that the toolchain's compiler makes of the library once it is proved: `rt lib` proves and
 builds it, and a second build, over what the first one kept, hands the same module out (its archive has to be the same, byte
-for byte). The module is made for x86-64; its layout of data, triple and processor are replaced by those of the other
+for byte). `proved` builds over the libraries that `rt ci` has left, which `rt lib` would prove anew, and writes nothing into the
+crates. The module is made for x86-64; its layout of data, triple and processor are replaced by those of the other
 system, and clang compiles it. What it takes from around it are the three functions of the heap alone, which stand beside this
 file; any other stops the build.
 
 It needs the toolchain (rt). Addresses of 32 bits for the page are made by wasm-opt (Debian: binaryen), without which there is no
-page; the programs are linked by
-x86_64-w64-mingw32-gcc (gcc-mingw-w64-x86-64), aarch64-linux-gnu-gcc (gcc-aarch64-linux-gnu) and gcc with libc6-dev. What is
-missing is said, and what can be made without it is made.
+page; the programs are linked by x86_64-w64-mingw32-gcc (gcc-mingw-w64-x86-64), aarch64-linux-gnu-gcc (gcc-aarch64-linux-gnu) and
+gcc with libc6-dev. What is missing is said, and what can be made without it is made.
 """
 from __future__ import annotations
 
@@ -28,6 +29,7 @@ import sys
 import tempfile
 from dataclasses import dataclass
 from pathlib import Path
+from typing import Callable
 
 HERE = Path(__file__).resolve().parent
 TOP = HERE.parent
@@ -153,10 +155,8 @@ def keeping_toolchain(room: Path) -> Path:
     return made
 
 
-def module(room: Path) -> Path:
-    """The compiler's module of the proved library, as a text in LLVM's language."""
-    say("proving and building crates/emtp_page")
-    ran(os.environ.get("RT", "rt"), "lib", folder=CRATE)
+def words_of(room: Path) -> list[str | Path]:
+    """The words by which the toolchain builds the library over those that are built, with a clang that keeps the module."""
     of_kit = kit() / "rlibs"
     words: list[str | Path] = ["--crate-name", CRATE.name, "src/lib.rt"]
     words += ["--extern", f"std={of_kit}/std.rlib", "-L", f"dependency={of_kit}"]
@@ -165,23 +165,32 @@ def module(room: Path) -> Path:
     for folder in sorted((TOP / "crates").glob("*/out/rlib")):
         words += ["-L", f"dependency={folder}"]
     words += ["--antt-project", kit() / "rattle/logic/antt-project.json", "--logic-built", kit() / "logic_built"]
-    words += [
-        "--incremental",
-        "out/incremental",
-        "--jobs",
-        "1",
-        "--links",
-        f"{CRATE.name}=",
-        "--crate-type",
-        "staticlib",
-    ]
-    words += ["--backend", "llvm", "--toolchain", keeping_toolchain(room), "-o", room / "again.a"]
-    ran(kit() / "bin" / "rattle", "build", *words, folder=CRATE)
+    words += ["--jobs", "1", "--links", f"{CRATE.name}=", "--crate-type", "staticlib"]
+    return [*words, "--backend", "llvm", "--toolchain", keeping_toolchain(room), "-o", room / "again.a"]
+
+
+def module(room: Path) -> Path:
+    """The compiler's module of the library, which `rt lib` proves and builds, as a text in LLVM's language."""
+    say("proving and building crates/emtp_page")
+    ran(os.environ.get("RT", "rt"), "lib", folder=CRATE)
+    ran(kit() / "bin" / "rattle", "build", *words_of(room), "--incremental", "out/incremental", folder=CRATE)
+    if (room / "again.a").read_bytes() != (CRATE / "out" / f"lib{CRATE.name}.a").read_bytes():
+        raise Lacking("the module that was handed out isn't that of the library: the two archives differ")
+    return as_text(room)
+
+
+def proved_module(room: Path) -> Path:
+    """The compiler's module of the library, proved once more over the libraries that `rt ci` has left."""
+    say("proving and building crates/emtp_page over what rt ci has proved")
+    ran(kit() / "bin" / "rattle", "build", *words_of(room), folder=CRATE)
+    return as_text(room)
+
+
+def as_text(room: Path) -> Path:
+    """The module that clang was given, as a text."""
     made = room / "module.bc"
     if not made.is_file():
         raise Lacking("the compiler handed no module to clang")
-    if (room / "again.a").read_bytes() != (CRATE / "out" / f"lib{CRATE.name}.a").read_bytes():
-        raise Lacking("the module that was handed out isn't that of the library: the two archives differ")
     clang("-S", "-emit-llvm", "-Xclang", "-disable-llvm-passes", "-x", "ir", made, "-o", "module.ll", folder=room)
     return room / "module.ll"
 
@@ -289,11 +298,11 @@ def in_room():
         yield Path(room)
 
 
-def page_module(room: Path) -> bytes:
-    """The page's module of WebAssembly. What is missing for it is said before an hour of proving."""
+def page_module(made: Callable[[Path], Path], room: Path) -> bytes:
+    """The page's module of WebAssembly, of the compiler's module. What is missing for it is said before an hour of proving."""
     if not shutil.which("wasm-opt"):
         raise Lacking("no page: wasm-opt isn't there, which gives its module addresses of 32 bits (Debian: binaryen)")
-    return lowered(wasm(module(room).read_text(encoding="utf-8"), room), room)
+    return lowered(wasm(made(room).read_text(encoding="utf-8"), room), room)
 
 
 # ---- what is made
@@ -302,7 +311,7 @@ def page_module(room: Path) -> bytes:
 def dist(folder: Path) -> list[Path]:
     """Makes the page in a folder."""
     with in_room() as room:
-        made = page_module(room)
+        made = page_module(module, room)
         version = ran(os.environ.get("RT", "rt"), "version").strip().split("\n")[0]
         made_page = pages.page(TOP, pages.packed(made), f"the proved library emtp_page, by {version}")
     folder.mkdir(parents=True, exist_ok=True)
@@ -327,6 +336,15 @@ def same(file: Path) -> list[Path]:
     """Holds a page to its parts."""
     if of_parts(file).encode() != file.read_bytes():
         raise Lacking(f"{file} isn't what its parts make: systems/build.py anew {file}")
+    return [file]
+
+
+def proved(file: Path) -> list[Path]:
+    """Holds the module of a page to the library as `rt ci` has proved it."""
+    there = pages.unpacked(pages.module_of(file.read_text(encoding="utf-8")))
+    with in_room() as room:
+        if page_module(proved_module, room) != there:
+            raise Lacking(f"the module in {file} isn't that of the proved library: ./build --dist")
     return [file]
 
 
@@ -357,7 +375,7 @@ def systems(folder: Path) -> list[Path]:
 
 def main() -> int:
     words = sys.argv[1:]
-    kinds = {"page": dist, "systems": systems, "anew": anew, "same": same}
+    kinds = {"page": dist, "systems": systems, "anew": anew, "same": same, "proved": proved}
     if words == ["--help"]:
         print(__doc__.strip())
         return 0
