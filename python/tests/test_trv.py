@@ -261,6 +261,7 @@ class Poles(unittest.TestCase):
             (["--rated", "24"], 2, "NOT JUDGED"),
             ([], 2, "NOT JUDGED"),
             (["--rated", "145", "--out", "x.docx"], 2, ""),
+            (["--csv", "x.csv", "--curves", "x.csv"], 2, ""),
             (["--pole", "U A-B"], 2, ""),
             (["--envelope", "1,2,3,a"], 2, ""),
         )

@@ -26,7 +26,7 @@ from .draft import CaseError
 from .drawing import Curve, Drawing, Pane
 from .record import Record, read
 from .resample import even_spacing
-from .signals import signal_of
+from .signals import names_of, signal_of
 from .write import Channel, Content, write
 
 ALLOWED = 0.1  # of the crest: the error that a transformer may have
@@ -85,7 +85,7 @@ def main(words: list[str]) -> int:
     for told in record.told:
         print(f"{its.record}: {told}", file=sys.stderr)
     primary, other = ratio_of(its.ratio)
-    names = [name.strip() for name in its.i.split(",") if name.strip()]
+    names = names_of(its.i)
     values = dict(ratio=primary / other, rct_ohm=its.rct, burden_ohm=its.burden, burden_mh=its.burden_mh)
     values |= dict(saturated_mh=its.saturated, remanence=its.remanence, hz=its.hz) | curve_of(its.points, its.knee)
     channels, errors, panes, rows = [], [], [], []
@@ -112,10 +112,9 @@ def main(words: list[str]) -> int:
         ]
         panes.append(Pane(f"{name}, A", curves))
     sides = ratio_of(its.vt)
-    volts = [name.strip() for name in its.v.split(",") if name.strip()]
     voltages = [
         Channel(name, "V", signal_of(record, name, "V").values, primary=sides[0], secondary=sides[1], scaling="S")
-        for name in volts
+        for name in names_of(its.v)
     ]
     content = Content(
         record.times, [*voltages, *channels], [], record.station, record.device, its.hz, _rates(record), record.start

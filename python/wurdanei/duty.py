@@ -23,12 +23,11 @@ import numpy as np
 
 from .case import Case
 from .draft import CaseError, writes
-from .envelope import FORMS, Envelope, NotAtHand, rated
+from .envelope import FORMS, LINE_OHM, Envelope, NotAtHand, rated
 from .tangents import SKIPPED, Tangents, tangents_of
 
 SHARES = {"T100": 1.0, "T60": 0.6, "T30": 0.3, "T10": 0.1, "L90": 1.0, "L75": 1.0, "OOP": 0.25}  # of isc
 LINES = {"L90": 0.9, "L75": 0.75}
-LINE_OHM = 450.0
 SAMPLES = 1500
 CLOSE, MET = 0.02, 5e-4  # of each parameter: what counts as met; what is looked for no further
 
@@ -111,7 +110,7 @@ def source(
         case.series(one, other, l_mh=1e3 * it.l, peak_a=3 * amps)
         case.series(one, other, r_ohm=it.r)
         case.series(one, other, c_uf=1e6 * it.c)
-    case.cosine(node, amplitude_a=amps, hz=hz, phase_deg=_within_turn(-90.0 - 360.0 * hz * zero_s))
+    case.cosine(node, amplitude_a=amps, hz=hz, phase_deg=round(math.remainder(-90.0 - 360.0 * hz * zero_s, 360.0), 9))
     share = LINES.get(duty)
     line = 0.0 if share is None else 1e6 * (1 / share - 1) * sum(it.l for it in groups) / LINE_OHM
     return Network(wanted, met, groups, volts, amps, zero_s, line)
@@ -174,8 +173,3 @@ def _group(inductance: float, turn: float, damping: float) -> Group:
     """The group of an inductance with this own angular frequency, and a damping in parts of it."""
     capacitance = 1 / (inductance * turn**2)
     return Group(1 / (2 * damping * turn * capacitance), inductance, capacitance)
-
-
-def _within_turn(degrees: float) -> float:
-    """The same angle, above -180 and up to 180 degrees."""
-    return round(180.0 - (180.0 - degrees) % 360.0, 9)

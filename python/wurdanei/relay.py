@@ -32,6 +32,7 @@ from .convert import number as real
 from .drawing import Bar, Curve, Drawing, Mark, Pane
 from .fourier import Phasors, phasors_of
 from .record import Record, read
+from .signals import names_of
 
 Names = Sequence[str]
 GROUND, PHASE = ("AG", "BG", "CG"), ("AB", "BC", "CA")
@@ -379,7 +380,7 @@ def main(words: list[str]) -> int:
     record = read(its.record)
     for told in record.told:
         print(f"{its.record}: {told}", file=sys.stderr)
-    amps = parted(its.i)
+    amps = names_of(its.i)
     kinds = [it for it in (its.mho or its.quad or its.v, its.overcurrent, its.differential) if it]
     if len(kinds) != 1:
         raise RecordError("ask for one of zones (--v, --line and --mho or --quad), --overcurrent and --differential")
@@ -388,11 +389,6 @@ def main(words: list[str]) -> int:
     if its.differential:
         return differential_told(record, amps, its)
     return zones_told(record, amps, its)
-
-
-def parted(text: str | None) -> list[str]:
-    """Names between commas."""
-    return [part.strip() for part in (text or "").split(",") if part.strip()]
 
 
 def zones_of(its: argparse.Namespace, z1: complex) -> list[Zone]:
@@ -431,7 +427,7 @@ def zones_told(record: Record, amps: list[str], its: argparse.Namespace) -> int:
     z1, z0 = complex(r1, x1) * km, complex(r0, x0) * km
     zones = zones_of(its, z1)
     expected = expected_of(its.expect, len(zones))
-    found = loops(record, parted(its.v), amps, z1, z0, its.hz, its.rate, its.lowpass, not its.keep_offset)
+    found = loops(record, names_of(its.v), amps, z1, z0, its.hz, its.rate, its.lowpass, not its.keep_offset)
     for told in found.told:
         print(told)
     print(
@@ -550,7 +546,7 @@ def height_of(curves: Sequence[Curve]) -> float:
 
 def overcurrent_told(record: Record, amps: list[str], its: argparse.Namespace) -> int:
     """An overcurrent relay: prints, writes, and answers the status."""
-    parts = parted(its.overcurrent)
+    parts = names_of(its.overcurrent)
     try:
         relay = Overcurrent(float(parts[0]), parts[1].upper(), float(parts[2]))
     except (IndexError, ValueError):
@@ -590,7 +586,7 @@ def overcurrent_told(record: Record, amps: list[str], its: argparse.Namespace) -
 def differential_told(record: Record, amps: list[str], its: argparse.Namespace) -> int:
     """A differential relay: prints, writes, and answers the status."""
     least, slope = report.numbers(its.differential, "--differential", (2,))
-    there = parted(its.there)
+    there = names_of(its.there)
     other = read(its.other) if its.other else None
     found = differential(record, amps, there, least, slope, its.hz, other, its.rate, its.lowpass)
     for told in found.told:

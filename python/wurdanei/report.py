@@ -30,6 +30,9 @@ def checked(named: argparse.Namespace, *read: str | None) -> None:
     own = {os.path.realpath(path) for path in read if path}
     own |= {os.path.splitext(path)[0] + ".dat" for path in own}
     outs = [("--out", named.out), ("--csv", named.csv), ("--curves", named.curves)]
+    named_twice = [path for _, path in outs if path and sum(path == other for _, other in outs) > 1]
+    if named_twice:
+        raise RecordError(f"{named_twice[0]} is named twice, for two things that are written")
     for word, path in outs:
         endings = (".png", ".svg", ".pdf", ".jpg", ".html", ".htm") if word == "--out" else (".csv",)
         if path and not path.lower().endswith(endings):

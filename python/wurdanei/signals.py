@@ -45,6 +45,11 @@ class Signal:
         return np.interp(times, self.times, self.values)
 
 
+def names_of(text: str | None) -> list[str]:
+    """The names of a word, parted by commas."""
+    return [part.strip() for part in (text or "").split(",") if part.strip()]
+
+
 def terms_of(text: str) -> list[tuple[float, str]]:
     """The signs and the names of a sum of channels."""
     parts = SIGN.split(text.strip())
