@@ -4,9 +4,10 @@ use Rattle.std.specs.Str.{bytes_eq}
 use Rattle.emtp_causes.specs.Ends.{end_text, unsolved_text}
 use Rattle.emtp_causes.specs.Misfit.{misfit_text}
 use Rattle.emtp_causes.specs.Parts.{field_line, item_line, number_or_one}
+use Rattle.emtp_inspect.specs.declared.words.PastWords.{PastWords}
 use Rattle.emtp_inspect.specs.declared.words.Wanted.{Wanted}
 use Rattle.emtp_inspect.specs.declared.words.Wanted.TheVariants.{Cause, Kinds, Listing, WarningCount}
-use Rattle.emtp_run.specs.Words.{is_name}
+use Rattle.emtp_run.specs.Words.{is_name, texts}
 
 abbrev pub named : Wanted → List ℕ → Option (Wanted × List ℕ)
 named wanted word = if is_name word then Some (wanted, word) else None
@@ -67,10 +68,16 @@ pub record PastRun : Type 0 where
   pub note : List ℕ
   pub words : List (List ℕ)
 
+abbrev pub run_of : PastWords → PastRun
+run_of w = record { status = w.status.now; note = w.note.now; words = texts w.words.now }
+
+abbrev pub told_behind : List ℕ → List ℕ → List ℕ → List (List ℕ) → Option PastRun
+told_behind first status note words =
+    if bytes_eq first (codes "--told") then Some (record { status = status; note = note; words = words }) else None
+
 -- a run of which is asked what its status means
 abbrev pub past_run : List (List ℕ) → Option PastRun
 past_run [] = None
 past_run (first ∷ []) = None
 past_run (first ∷ status ∷ []) = None
-past_run (first ∷ status ∷ note ∷ words) =
-    if bytes_eq first (codes "--told") then Some (record { status = status; note = note; words = words }) else None
+past_run (first ∷ status ∷ note ∷ words) = told_behind first status note words

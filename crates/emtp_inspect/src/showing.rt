@@ -10,7 +10,7 @@ ghost use Rattle.emtp_run.specs.Words.{texts};
 use crate::after_run::tell_after;
 use crate::explaining::explained;
 use crate::telling::{Told, tell};
-use crate::words::{Wanted, read_words};
+use crate::words::{Wanted, past_words, read_words};
 use emtp_io::{Cabinet, ReadEnd};
 use emtp_run::{Status, leave_summary, read_input, refuse, text_file, usage};
 use std::alloc::{AllocError, Global};
@@ -47,11 +47,9 @@ pub fn inspect<C: Cabinet>(alloc: Global, words: &[String], cabinet: &mut C) -> 
     ensures { Inspects (past_run (texts words.now)) (asked (texts words.now)) (explained (texts words.now)) result
         (C.state cabinet.old) (C.state cabinet.new) }
 {
-    match words {
-        [first, status, note, behind @ ..] if first.as_str() == "--told" => {
-            tell_after(alloc, status.as_str(), note.as_bytes(), behind, cabinet)
-        }
-        _ => show_or_explain(alloc, words, cabinet),
+    match past_words(words) {
+        Some(run) => tell_after(alloc, run.status, run.note, run.words, cabinet),
+        None => show_or_explain(alloc, words, cabinet),
     }
 }
 

@@ -1,6 +1,6 @@
 //! What the words of a command line ask for.
 ghost use Rattle.std.specs.Prelude.{◌≡◌, None, option_map};
-ghost use Rattle.emtp_inspect.specs.Asking.{asked, counted, named};
+ghost use Rattle.emtp_inspect.specs.Asking.{asked, counted, named, past_run, run_of, told_behind};
 ghost use Rattle.emtp_run.specs.Words.{texts};
 
 use emtp_run::is_name;
@@ -47,5 +47,49 @@ fn named<'a>(wanted: Wanted, word: &'a str) -> Option<(Wanted, &'a str)>
         Some((wanted, word))
     } else {
         None
+    }
+}
+
+// ---- a run that was made
+
+/// What words say of a run that was made.
+#[derive(Clone, Copy)]
+pub(crate) struct PastWords<'a> {
+    /// The number of its status.
+    pub(crate) status: &'a str,
+    /// Its note, without the end of the line.
+    pub(crate) note: &'a [u8],
+    /// Its words.
+    pub(crate) words: &'a [String],
+}
+
+/// The run of which words ask what its status means: behind `--told` stand STATUS, NOTE and the words of the run.
+pub(crate) fn past_words(words: &[String]) -> Option<PastWords<'_>>
+    ensures { option_map (λ w. run_of w) result ≡ past_run (texts words.now) }
+{
+    match words {
+        [first, status, note, behind @ ..] => {
+            told_behind(first.as_str(), status.as_str(), note.as_str(), behind)
+        }
+        _ => None,
+    }
+}
+
+fn told_behind<'a>(
+    first: &str,
+    status: &'a str,
+    note: &'a str,
+    words: &'a [String],
+) -> Option<PastWords<'a>>
+    ensures { option_map (λ w. run_of w) result
+        ≡ told_behind first.now status.entry.now note.entry.now (texts words.entry.now) }
+{
+    match first {
+        "--told" => Some(PastWords {
+            status,
+            note: note.as_bytes(),
+            words,
+        }),
+        _ => None,
     }
 }
