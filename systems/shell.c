@@ -20,7 +20,7 @@ typedef wchar_t Letter; // of the system's own words and names
 typedef char Letter;
 #endif
 
-enum { DONE = 0, ENDED = 3, READ_FAULT = 4, WRITE_FAULT = 5, NO_MEMORY = 6 };
+enum { DONE = 0, USAGE = 1, ENDED = 3, READ_FAULT = 4, WRITE_FAULT = 5, NO_MEMORY = 6 };
 
 #define MOST_FILES 3
 #define OUTPUTS 4
@@ -159,9 +159,9 @@ static int files_of(const char *command) {
     return strcmp(command, "trial") != 0;
 }
 
-// Whether a word behind `show` says what is asked of the case whose name stands behind it.
+// Whether a word behind `show` or `judge` says what is asked of the case whose name stands behind it.
 static bool asks_of_case(const char *word) {
-    return !strcmp(word, "--count") || !strcmp(word, "--kinds") || !strcmp(word, "--why");
+    return !strcmp(word, "--count") || !strcmp(word, "--kinds") || !strcmp(word, "--why") || !strcmp(word, "--samples");
 }
 
 // ---- calls
@@ -252,8 +252,10 @@ static int run(int count, Letter **given) {
     int status = leave(&answer, outputs, count == 4 ? given[2] : 0, count == 4 ? given[3] : 0);
     if (odd) {
         fputs("A word isn't UTF-8.\n", stderr);
+    } else if (judges && status == USAGE) {
+        fputs("Behind judge stand --samples and CASE.\n", stderr);
     } else if (status != DONE) {
-        if (shows && count == 3 && asks_of_case(words[1])) {
+        if (skipped && count == 3 && asks_of_case(words[1])) {
             words[1] = words[2];
             count = 2;
         }
