@@ -111,4 +111,6 @@ def _apart(curves: Curves, weight: float) -> np.ndarray:
     """The difference of two magnitudes over so many times the mean of their sum; 0 where both are nothing."""
     case, measured = abs(curves[0]), abs(curves[1])
     mean = float(np.mean(case + measured))
-    return (case - measured) / (weight * mean) if mean else 0.0 * case
+    if not mean:
+        return np.zeros(len(case))
+    return (case - measured) / (weight * mean)
