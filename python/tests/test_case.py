@@ -865,8 +865,9 @@ class Runs(unittest.TestCase):
             before = set(os.listdir(program.scratch() or "/tmp"))
             ran = subprocess.Popen([sys.executable, "-c", case], stdout=subprocess.PIPE, text=True, cwd=PACKAGE)
             self.assertEqual(ran.stdout.readline(), "runs\n")
+            self.addCleanup(ran.kill)
             child = None
-            for _ in range(200):
+            for _ in range(1500):
                 time.sleep(0.02)
                 children = pathlib.Path(f"/proc/{ran.pid}/task/{ran.pid}/children").read_text().split()
                 if children and "emtp" in pathlib.Path(f"/proc/{children[0]}/comm").read_text():
@@ -874,8 +875,8 @@ class Runs(unittest.TestCase):
                     break
             self.assertIsNotNone(child)
             ran.send_signal(number)
-            self.assertEqual(ran.communicate(timeout=10)[0], "")
-            for _ in range(100):
+            self.assertEqual(ran.communicate(timeout=60)[0], "")
+            for _ in range(1500):
                 if not os.path.exists(f"/proc/{child}"):
                     break
                 time.sleep(0.02)

@@ -184,7 +184,8 @@ class Lost(Folder):
         )
         for number in (signal.SIGTERM, signal.SIGKILL):
             ran = subprocess.Popen([sys.executable, "-c", text], cwd=PACKAGE, stderr=subprocess.DEVNULL)
-            for _ in range(500):
+            self.addCleanup(ran.kill)
+            for _ in range(3000):
                 time.sleep(0.02)
                 names = {it.name.partition(".")[2] for it in self.room.iterdir() if it.name[0].isdigit()}
                 workers = {it for it in names if os.path.exists(f"/proc/{it}")}
@@ -192,8 +193,8 @@ class Lost(Folder):
                     break
             self.assertEqual(len(workers), 2)
             ran.send_signal(number)
-            ran.wait(timeout=20)
-            for _ in range(250):
+            ran.wait(timeout=60)
+            for _ in range(3000):
                 left = [it for it in workers if os.path.exists(f"/proc/{it}/exe")]
                 if not left:
                     break
