@@ -59,7 +59,6 @@ class Numbers(unittest.TestCase):
 
     def test_a_value_is_refused_where_a_thousandth_is_lost(self) -> None:
         rows = [
-            (4e-7, "R = 4e-07 ohm becomes 0 ohm as it is kept in whole micro-ohm, 1 of it lost"),
             (1.4e-6, "R = 1.4e-06 ohm becomes 1e-6 ohm as it is kept in whole micro-ohm, 0.29 of it lost"),
             (-1.0, "R = -1.0 ohm is out of its range, 0 ohm to 1e9 ohm"),
             (2e9, "R = 2000000000.0 ohm is out of its range, 0 ohm to 1e9 ohm"),
@@ -78,6 +77,14 @@ class Numbers(unittest.TestCase):
         self.assertEqual(
             str(raised.exception), "gain = -0.00012345 becomes -0.000123 in columns 51-56, 0.0036 of it lost"
         )
+
+    def test_below_half_of_the_last_digit_it_is_0(self) -> None:
+        """But where 0 says another thing than nothing: no capacitance at all, a gain of 1."""
+        self.assertEqual(fields.fitted(4e-7, R), fields.Fitted("0.", 0, 1.0))
+        self.assertEqual(fields.fitted(-4e-13, columns.SWITCH.field("T-CLOSE")), fields.Fitted("0.", 0, 1.0))
+        for value, field in ((4e-10, columns.SERIES.field("C")), (4e-13, columns.BLOCK.field("gain"))):
+            with self.assertRaisesRegex(fields.FieldError, "becomes 0 ?(uF)? as it is kept in whole .*, 1 of it lost"):
+                fields.fitted(value, field)
 
     def test_times_are_held_at_the_ends_of_their_range(self) -> None:
         never = columns.SWITCH.field("T-OPEN")
