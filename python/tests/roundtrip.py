@@ -163,7 +163,7 @@ class Maker:
     def series(self) -> None:
         ends, ask = self.ends(), self.asked()
         values = (self.maybe(1e-4, 1e8), self.maybe(1e-3, 1e8), self.maybe(1e-6, 1e5))
-        self.case.series(*ends, r_ohm=values[0], l_mh=values[1], c_uf=values[2], ask=ask)
+        self.case.series(*ends, r_ohm=values[0], l_mh=values[1], c_uf=values[2], form="plain", ask=ask)
         self.add_branch(self.series_expected(ends, values), ask)
 
     def series_expected(self, ends: tuple[str, str], values: typing.Sequence[float | Decimal]) -> Expected:
@@ -173,24 +173,6 @@ class Maker:
         places = ((27, 42), (43, 58), (59, 74)) if wide else ((27, 32), (33, 38), (39, 44))
         numbers = {n: Number(v, *at, k) for n, v, at, k in zip("RLC", values, places, (6, 6, 9))}
         return Expected("series branch", self.bus(ends), numbers)
-
-    def cut(self) -> None:
-        ends, ask = self.ends(), self.pick.choice(["", "i"])
-        pieces = self.pick.randint(2, 5)
-        r_ohm, l_mh, c_uf = self.maybe(1e-3, 1e3), self.number(1, 1e3), self.maybe(1e-3, 10)
-        peak_a = 0.9e9 * self.case.dt / (2e-3 * l_mh) * (pieces - 0.5)
-        before = len(self.case._draft.contents.branches)
-        self.case.series(*ends, r_ohm=r_ohm, l_mh=l_mh, c_uf=c_uf, peak_a=peak_a, ask=ask)
-        inner = [it.ends for it in self.case._draft.contents.branches[before:]]
-        assert len(inner) == pieces and [a for a, _ in inner[1:]] == [b for _, b in inner[:-1]], inner
-        assert (inner[0][0], inner[-1][1]) == ends
-        for number, own in enumerate(inner):
-            branch = self.case._draft.contents.branches[before + number]
-            wide = branch.cards[0].kind.name.startswith("wide")
-            places = ((27, 42), (43, 58), (59, 74)) if wide else ((27, 32), (33, 38), (39, 44))
-            values = (r_ohm if number == 0 else 0.0, l_mh / pieces, c_uf if number == 0 else 0.0)
-            numbers = {n: Number(v, *at, k) for n, v, at, k in zip("RLC", values, places, (6, 6, 9))}
-            self.add_branch(Expected("series branch", self.bus(own), numbers), ask if number == 0 else "")
 
     def line_values(self) -> dict[str, float]:
         """The values of a line or a sequence, by one of the three ways."""
@@ -210,33 +192,30 @@ class Maker:
         return own
 
     @staticmethod
-    def line_made(own: dict[str, float], prefix: str, place: int) -> typing.Callable[[list[str]], dict[str, Interval]]:
-        """Surge impedance, travel time and resistance, made of what stands on the card."""
+    def line_made(own: dict[str, float], prefix: str) -> typing.Callable[[list[str]], dict[str, Interval]]:
+        """Surge impedance, travel time and resistance, which the columns keep but for a part of 2e-5, of 2e-4 the last."""
+        if "l_mh" in own:
+            zc = math.sqrt(1e3 * own["l_mh"] / own["c_uf"])
+            tau = own["length"] * math.sqrt(1e-9 * own["l_mh"] * own["c_uf"])
+        else:
+            zc = own["zc_ohm"]
+            tau = own["length"] / own["velocity"] if "velocity" in own else 1e-6 * own["tau_us"]
+        r = own["length"] * own.get("r_ohm", 0.0)
 
         def made(cards: list[str]) -> dict[str, Interval]:
-            card = cards[place]
-
-            def at(name: str, first: int, last: int, places: int) -> Interval:
-                return Number(own[name], first, last, places).within(card)
-
-            length = at("length", 45, 50, 6)
-            if "l_mh" in own:
-                l, c = at("l_mh", 33, 38, 6), at("c_uf", 39, 44, 9)
-                zc, tau = root(times(divided(l, c), (1e3, 1e3))), times(length, root(times(l, c, (1e-9, 1e-9))))
-            elif "velocity" in own:
-                zc, tau = at("zc_ohm", 33, 38, 6), divided(length, at("velocity", 39, 44, 6))
-            else:
-                zc = at("zc_ohm", 33, 38, 6)
-                tau = Number(own["tau_us"] * 1e-6, 39, 44, 12).within(card)
-            r = times(length, at("r_ohm", 27, 32, 6)) if "r_ohm" in own else (0.0, 0.0)
-            return {f"{prefix}surge impedance": zc, f"{prefix}R": r, f"{prefix}travel time": tau}
+            rows = (
+                ("surge impedance", zc, 2e-5, 5e-7),
+                ("R", r, 2e-4, 1e-6 * own["length"]),
+                ("travel time", tau, 2e-5, 1e-12),
+            )
+            return {f"{prefix}{name}": (v * (1 - part) - more, v * (1 + part) + more) for name, v, part, more in rows}
 
         return made
 
     def line(self) -> None:
         ends, ask, own = self.ends(), self.asked(), self.line_values()
         self.case.line(*ends, **own, ask=ask)
-        self.add_branch(Expected("line", self.bus(ends), {}, self.line_made(own, "", 0)), ask)
+        self.add_branch(Expected("line", self.bus(ends), {}, self.line_made(own, "")), ask)
 
     def line3(self) -> None:
         (a, b), zero, positive = self.three(), self.line_values(), self.line_values()
@@ -250,8 +229,8 @@ class Maker:
         self.case.line3(a, b, zero=zero, positive=positive, ask=asks)
         self.add_phases(a, b, asks)
         first = len(self.branches) - 3
-        self.modes.append((first, 0, Expected("modes", {}, {}, self.line_made(zero, "zero ", 0))))
-        self.modes.append((first, 1, Expected("modes", {}, {}, self.line_made(positive, "positive ", 1))))
+        self.modes.append((first, 0, Expected("modes", {}, {}, self.line_made(zero, "zero "))))
+        self.modes.append((first, 1, Expected("modes", {}, {}, self.line_made(positive, "positive "))))
 
     def add_phases(self, a: list[str], b: list[str], asks: list[str]) -> None:
         count = len({first for first, _, _ in self.modes}) + 1
@@ -669,7 +648,7 @@ class Maker:
     # ---- the whole
 
     METHODS = (
-        *("series", "series", "cut", "line", "line3", "arrester", "reactor", "copy", "copy", "copy3"),
+        *("series", "series", "line", "line3", "arrester", "reactor", "copy", "copy", "copy3"),
         *("switch", "switch", "poles", "measuring", "valve", "controlled"),
         *("step", "ramp", "cosine", "driven", "output"),
         *("control_source", "measured", "block", "formula", "device", "device", "control_output"),
@@ -756,7 +735,7 @@ def same_tree(one: str | tuple, other: str | tuple) -> bool:
 def faults_of(maker: Maker, found: listing.Listing) -> list[str]:
     """What of a case isn't listed as it was given."""
     case, faults = maker.case, []
-    texts = case.text().split("\n")
+    texts = case.text(plain=True).split("\n")
     pairs: list[tuple[Expected, listing.Line, str]] = []
     branches = found.of("series branch", "line", "phase of a line", "nonlinear resistor", "nonlinear reactor")
     switches = found.of("time switch", "measuring switch", "valve", "controlled switch")
@@ -854,7 +833,8 @@ def channel_faults(maker: Maker, found: listing.Listing) -> list[str]:
         ends, ask = f"{own.named['BUS1'] or '0'}-{own.named['BUS2'] or '0'}", own.named["asked"] or ""
         asked += [f"{letter} {ends}" for key, letter in (("i", "I"), ("u", "U")) if key in ask]
         states += [f"S {ends}"] if ask else []
-    own, own_states = case._analog_names(), case._status_names()
+    form = case._form(plain=True)
+    own, own_states = [channel.own for channel in form.channels], [name for name, _ in form.states]
     faults = [] if names == own + own_states else [f"channels {names}, and the case names {own}"]
     if [name for name in own if name[0] in "IU"] != asked or own_states != states:
         faults.append("the case names other currents and voltages of branches than were asked for")
@@ -866,7 +846,7 @@ def tried(seed: int) -> tuple[Maker, list[str]]:
     maker = Maker(seed)
     maker.make()
     try:
-        return maker, faults_of(maker, maker.case.show())
+        return maker, faults_of(maker, maker.case.show(plain=True))
     except Refused as fault:
         return maker, [str(fault)]
     except CaseError as fault:  # too many channels, or no node

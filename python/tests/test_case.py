@@ -129,9 +129,9 @@ class Text(unittest.TestCase):
 
     def test_points_of_an_arrester_and_a_reactor(self) -> None:
         case = Case(1e-5, 1e-3)
-        case.arrester("A", points=[(0.001, 2e5), (1000, 350e3)], ask="iu")
+        case.arrester("A", points=[(0.001, 2e5), (1000, 350e3)], filtered=False, ask="iu")
         case.reactor("B", points=[(2.5, 120)])
-        case.arrester("C", like=("A", ""))
+        case.arrester("C", like=("A", ""), filtered=False)
         end = " " * 12 + "9999"
         self.assertEqual(
             cards(case),
@@ -196,6 +196,13 @@ class Text(unittest.TestCase):
             ],
         )
 
+    def test_a_gain_that_loses_digits_goes_into_the_numerator(self) -> None:
+        case = Case(1e-4, 1e-2)
+        case.control.block("X", "TIMEX", gain=1.234567, numerator=[1, 2], denominator=[1, 0.01])
+        case.control.block("Y", "TIMEX", gain=1.25, numerator=[1, 2], denominator=[1, 0.01])
+        self.assertIn("  1.234567  2.469134", cards(case))
+        self.assertIn(" 1Y       +TIMEX".ljust(52) + "1.25", cards(case))
+
     def test_a_long_formula_goes_without_its_blanks(self) -> None:
         case = Case(1e-4, 1e-2)
         case.control.formula("X", " + ".join(["TIMEX"] * 11))
@@ -222,9 +229,11 @@ class Text(unittest.TestCase):
             [
                 "the node 0 is not ground, which is the empty name",
                 "FAR: the source never acts, since it stops at 0.01 s and starts at 0.02 s",
-                "BUS-X: surge impedance = 300.123456 becomes 300.12 ohm, 1e-05 of it lost in 6 columns",
-                "BUS-X: velocity = 299792.458 becomes 299792, 2e-06 of it lost in 6 columns",
+                case.told[2],
             ],
+        )
+        self.assertRegex(
+            case.told[2], "^the lengths of the lines BUS-X stand in units of their own: of surge impedance at "
         )
 
     def test_lines_and_waves_that_are_seldom_meant_so(self) -> None:
@@ -417,21 +426,10 @@ class Refusals(unittest.TestCase):
 
 
 class CompoundCalls(unittest.TestCase):
-    def test_an_inductance_is_cut_where_it_would_leave_the_range(self) -> None:
-        # 2 * 50.9 mH * 60 kA / 1 us = 6.1e9 V; seven pieces of 0.87e9 V
+    def test_names_of_made_nodes_are_taken(self) -> None:
         case = Case(1e-6, 1e-3)
         case.series("SRC", "BUS", r_ohm=1.6, l_mh=50.9, peak_a=60e3, ask="i")
-        case.series("BUS", "A", l_mh=1, peak_a=1e3)
-        written = cards(case)
-        self.assertEqual(
-            [line[2:14] for line in written if line[:1] != "$"],
-            ["SRC   L.1   "]
-            + [f"L.{k}   L.{k + 1}   " for k in range(1, 6)]
-            + ["L.6   BUS".ljust(12), "BUS   A".ljust(12)],
-        )
-        self.assertEqual([line[26:58].split() for line in written if line[2:4] == "L."], [["7.271429"]] * 6)
-        self.assertEqual(case.names, ["I SRC-L.1"])
-        self.assertIn("50.9 mH are cut into 7 pieces in series", case.told[0])
+        self.assertEqual((case.nodes, case.names), (["SRC", "L.1", "BUS"], ["I SRC-BUS"]))
         with self.assertRaisesRegex(CaseError, r"L.1 is a name that test_case.py line \d+, series\("):
             case.series("L.1", r_ohm=1)
 
@@ -548,14 +546,16 @@ class Answers(unittest.TestCase):
 
     def test_a_run_that_ends_early_is_a_record_with_its_end_told(self) -> None:
         case = Case(1e-6, 1e-4)
-        case.series("A", "B", l_mh=1000)
+        case.series("A", "B", l_mh=1000, form="plain")
         case.series("B", r_ohm=1)
         case.step("A", amplitude_v=9e8)
         case.output("B")
         found = case.run(early="keep")
         self.assertEqual(case.end_of_run.cause, "RANGE")
         self.assertEqual(len(found.times), case.end_of_run.step)
-        self.assertRegex(found.told[0], r"^the run ended in step \d+ .*RANGE at [AB]: .*A-B at 500 A\): peak_a cuts it")
+        self.assertRegex(
+            found.told[0], r"^the run ended in step \d+ .*RANGE at [AB]: .*A-B at 500 A\): with form='flux' "
+        )
 
     def test_a_case_that_asks_for_nothing(self) -> None:
         case = Case(1e-3, 1e-2)
@@ -984,7 +984,7 @@ def lines_by_methods() -> Case:
     zero, positive = dict(r_ohm=0.1, zc_ohm=600, velocity=2e5), dict(r_ohm=0.02, zc_ohm=300, velocity=2.5e5)
     case.line3(["SA", "SB", "SC"], ["RA", "RB", "RC"], length=100, zero=zero, positive=positive)
     case.line("RA", "FAR", zc_ohm=400, tau_us=500, ask="i")
-    case.arrester("RB", points=[(0.001, 2e5), (1000, 3.5e5)], ask="iu")
+    case.arrester("RB", points=[(0.001, 2e5), (1000, 3.5e5)], filtered=False, ask="iu")
     case.reactor("RC", points=[(2.5, 120)])
     case.series("FAR", r_ohm=75)
     case.series("RC", like=("FAR", ""))

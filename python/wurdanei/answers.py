@@ -49,7 +49,7 @@ OF_THE_CASE = ("Size", "NoSource", "Probe")  # refused as a whole; the line is 1
 CAUSES = {
     "TIED": "closed switches join two nodes with voltage sources, or one with ground",
     "ZEROPIVOT": "nothing ties the node, or its part of the network, to ground or to a source",
-    "RANGE": "a number left its range: 1e9 V, 1e9 A, 1e5 S, or 2 L i / dt of an inductance 1e9 V",
+    "RANGE": "a number left its range: 1e9 V, 1e9 A, 1e5 S, 1e6 Wb of a reactor, or 2 L i / dt of a series branch 1e9 V",
     "RESIDUAL": "the currents there don't cancel within the tolerance",
     "TACSPIVOT": "the blocks around it form a loop whose gains multiply to 1",
     "TACSRANGE": "the variable left its range: above 1e9, divided by 0, or the root of a number below 0",
@@ -142,11 +142,14 @@ class Batch:
     """The peaks of many runs: shape (rows, channels), the greatest magnitude of each analog channel in its unit.
 
     `ends` has for each row nothing, or the words of its early end; the peaks are then those of the samples before it.
+    Where an arrester has a filtered channel, the peaks of its voltage are those of samples on its characteristic;
+    `recorded`, of the same shape, has the peaks of all samples.
     """
 
     names: list[str]
     peaks: np.ndarray = field(repr=False)
     ends: list[str | None] = field(repr=False)
+    recorded: np.ndarray | None = field(default=None, repr=False)
 
     def channel(self, name: str) -> np.ndarray:
         """The peaks of a channel: shape (rows,)."""

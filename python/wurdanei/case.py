@@ -18,6 +18,7 @@ besides.
 from __future__ import annotations
 
 import contextlib
+import dataclasses
 import difflib
 import fcntl
 import os
@@ -27,7 +28,7 @@ import warnings
 
 import numpy as np
 
-from . import columns, fields, listing, program
+from . import columns, fields, form, line_values, listing, program
 from .answers import (
     BAD_CARD,
     CAUSES,
@@ -47,8 +48,11 @@ from .answers import (
 )
 from .compound import Compound, after
 from .control import Control
-from .draft import STANDING, Branch, Call, CaseError, Draft, Switch, Written, joined
+from .draft import STANDING, Call, CaseError, Contents, Draft, Switch, Written
 from .fields import FieldError
+from .form import Form
+from .inductance import Inductance
+from .surge_arrester import PART, Off
 from .record import Record, computed, distinct, read
 from .samples import whole_values
 from .write import put
@@ -68,8 +72,9 @@ __all__ = [
 
 NOTHING = "nothing was said"
 STATUSES = {4: "the case can't be read", 5: "what it prints can't be written", 6: "there isn't enough memory"}
-MOST_STEPS, MOST_VALUES, MOST_CHANNELS, MOST_HISTORY, MOST_ROWS = 1_000_000, 4_000_000, 64, 2_000_000, 1000
+MOST_STEPS, MOST_HISTORY, MOST_ROWS = 1_000_000, 2_000_000, 1000
 UNITS = {"V": "V", "U": "V", "I": "A"}  # of channels, by the first word of their names; else none, PU
+TELLS = 0.005  # how far recorded peak and filtered one of an arrester may differ without a word
 
 
 class Case(Compound):
@@ -108,7 +113,7 @@ class Case(Compound):
         self._head = [*head, draft.written(columns.SECOND, {"IOUT": str(iout), "IPLOT": str(self._every)})]
         self._remark = [line.rstrip() for line in remark.splitlines()]
         draft.dt_ps = step.kept
-        self._steps = (2 * until.kept + step.kept) // (2 * step.kept)
+        self._steps = draft.steps = (2 * until.kept + step.kept) // (2 * step.kept)
         if not 1 <= self._steps <= MOST_STEPS:
             raise CaseError(f"Case: end / dt is {self._steps:,} steps, and has to be from 1 to {MOST_STEPS:,}")
 
@@ -155,59 +160,65 @@ class Case(Compound):
 
     @property
     def told(self) -> list[str]:
-        """What was done beyond the letter of the calls, each once: digits that a field lost, pieces that were cut. Then
-        what is seldom meant so of the last answer: how many warnings the case has, that it asks for no output, rows
-        of a batch that change nothing."""
+        """What was done beyond the letter of the calls, each once: digits that a field lost, inductances that are written
+        by their flux, arresters whose peaks aren't filtered. Then what is seldom meant so of the last answer: how many
+        warnings the case has, that it asks for no output, rows of a batch that change nothing."""
         if self._unheard is not None:
             self._heard = _warned(self._unheard) + self._heard
             self._unheard = None
-        return [*self._draft.contents.told, *self._heard]
+        contents = self._draft.contents
+        return [*contents.told, *line_values.told(contents.lines), *self._form().told, *self._heard]
+
+    @property
+    def inductances(self) -> list[Inductance]:
+        """How each inductance of a series branch is written: its form, what a plain branch acts with, its drift."""
+        return list(self._draft.contents.inductances)
+
+    @property
+    def filtered(self) -> dict[str, str]:
+        """The filtered channels of arresters, by the names of the voltages that they filter, recorded or not: `V A` of
+        the node and `U A-0` of the arrester."""
+        return dict(self._form().filtered)
+
+    def _form(self, plain: bool = False) -> Form:
+        """The cards that stand for the case: its plain ones, or those with which it is run."""
+        contents = self._draft.contents
+        return form.plain(contents) if plain else form.run(contents, self.steps // self.every + 1)
 
     # ---- what the record has
 
     @property
     def nodes(self) -> list[str]:
         """The names of the nodes, in the order in which they first appear on the cards of branches and then of
-        switches."""
-        contents = self._draft.contents
-        ends = [it.ends for it in contents.branches] + [it.ends for it in contents.switches]
-        return list(dict.fromkeys(name for both in ends for name in both if name))
+        switches; those that calls have made among them."""
+        return self._form().nodes
 
     @property
     def names(self) -> list[str]:
-        """The names of the record's analog channels, in its order; a later one of the same name has .2, .3 behind."""
-        return distinct(self._analog_names(), set(), [])
+        """The names of the answers' analog channels, in their order; a later one of the same name has .2, .3 behind."""
+        return distinct([it.name for it in self._form().channels], set(), [])
 
     @property
     def state_names(self) -> list[str]:
-        """The names of the record's status channels, in its order."""
-        return distinct(self._status_names(), set(self.names), [])
-
-    def _analog_names(self) -> list[str]:
-        """The names as the record has them."""
-        contents = self._draft.contents
-        found = [f"V {name}" for asked in contents.outputs for name in asked.names or self.nodes]
-        asking: tuple[typing.Sequence[Branch | Switch], ...] = (contents.branches, contents.switches)
-        for items in asking:
-            for it in items:
-                found += [f"{letter} {joined(it.ends)}" for bit, letter in ((1, "I"), (2, "U")) if it.asked & bit]
-        return found + [f"T {name}" for asked in contents.control_outputs for name in asked.names]
-
-    def _status_names(self) -> list[str]:
-        return [f"S {it.name}" for it in self._draft.contents.switches if it.asked]
+        """The names of the answers' status channels, in their order."""
+        return distinct([name for name, asked in self._form().states if asked], set(self.names), [])
 
     # ---- judging
 
     def check(self) -> None:
         """Judges what needs all cards: names that a card reads, and limits by count. Raises CaseError."""
-        self._check_names()
-        self._check_counts()
+        self._judge(self._form())
 
-    def _check_names(self) -> None:
-        contents = self._draft.contents
-        nodes = dict.fromkeys(self.nodes)
+    def _judge(self, own: Form) -> None:
+        self._check_names(own)
+        form.judge(own, self.steps // self.every + 1)
+        self._check_history(own)
+
+    def _check_names(self, own: Form) -> None:
+        contents = own.contents
+        nodes = dict.fromkeys(own.nodes)
         switched = {name for it in contents.switches for name in it.ends if name}
-        variables = contents.variables.keys() | set(STANDING)
+        variables = self._draft.contents.variables.keys() | set(STANDING)
         for source in contents.sources:
             _known(source.name, nodes, "no branch and no switch has the node", source.card.call)
             if source.kind == 60:
@@ -230,17 +241,8 @@ class Case(Compound):
             for name in asked.names:
                 _known(name, variables, "the control has no variable", asked.card.call)
 
-    def _check_counts(self) -> None:
-        contents = self._draft.contents
-        channels = len(self._analog_names()) + len(self._status_names())
-        samples = self.steps // self.every + 1
-        if channels > MOST_CHANNELS:
-            raise CaseError(f"{channels} channels are asked for, and a record has at most {MOST_CHANNELS}")
-        if channels * samples > MOST_VALUES:
-            raise CaseError(
-                f"the record would have {channels * samples:,} values, {channels} channels of {samples:,} samples, "
-                f"and has at most {MOST_VALUES:,}: raise every, or ask for less"
-            )
+    def _check_history(self, own: Form) -> None:
+        contents = own.contents
         history = sum(it.history for it in contents.branches) + sum(it.history for it in contents.extras)
         if history > MOST_HISTORY:
             raise CaseError(
@@ -250,23 +252,43 @@ class Case(Compound):
 
     # ---- text
 
-    def text(self, rulers: bool = False) -> str:
-        """The cards of the case, a line each; with `rulers` the names of the fields stand above each kind of card."""
-        return "".join(f"{line.text if isinstance(line, Written) else line}\n" for line in self._lines(rulers))
+    def text(self, rulers: bool = False, plain: bool = False) -> str:
+        """The cards of the case, a line each; with `rulers` the names of the fields stand above each kind of card.
 
-    def write(self, path: str | os.PathLike[str], rulers: bool = True) -> None:
-        """Writes the case into a file."""
-        pathlib.Path(path).write_bytes(self.text(rulers).encode("utf-8"))
+        They are those with which it is run; with `plain` those of its plain form, without reactors in place of
+        inductances and filters of arresters, which a steady state and a scan want.
+        """
+        lines = self._lines(rulers, plain)
+        return "".join(f"{line.text if isinstance(line, Written) else line}\n" for line in lines)
 
-    def _lines(self, rulers: bool = False) -> list[Written | str]:
+    def write(self, path: str | os.PathLike[str], rulers: bool = True, plain: bool = False) -> None:
+        """Writes the case into a file; `rulers` and `plain` as of `text`."""
+        pathlib.Path(path).write_bytes(self.text(rulers, plain).encode("utf-8"))
+        self._heard = [] if plain else self._told_of_file(f"{os.fspath(path)}")
+
+    def _told_of_file(self, path: str) -> list[str]:
+        """What a reader of the written case has to know: which channels have other names there, and what refuses it."""
+        own = self._form()
+        renamed = [f"{it.own} is {it.name}" for it in own.channels if it.own != it.name]
+        scaled = [f"{it.own} has to be multiplied by {it.factor:.9g}" for it in own.channels if it.factor != 1]
+        found = [f"{path}: its channel {', '.join([*renamed, *scaled])}"] if renamed or scaled else []
+        instead = (it.instead.branches for it in self._draft.contents.branches if it.kind == "series" and it.instead)
+        if any(it.kind == "reactor" for own in instead for it in own):
+            found.append(
+                f"{path}: phasor and scan refuse its reactors in place of inductances; write(.., plain=True) leaves them out"
+            )
+        return found
+
+    def _lines(self, rulers: bool = False, plain: bool = False) -> list[Written | str]:
         """The lines of the case: cards with their calls, and what stands between."""
-        self.check()
-        contents = self._draft.contents
+        own = self._form(plain)
+        self._judge(own)
+        contents = own.contents
         found: list[Written | str] = [f"C {line}".rstrip() for line in self._remark]
         found.append("BEGIN NEW DATA CASE")
         found += self._head
         sections: list[list[Written | str]] = [
-            [*self._branch_cards()],
+            [*_branch_cards(contents)],
             [it.card for it in contents.switches],
             [it.card for it in contents.sources],
             [it.card for it in contents.outputs],
@@ -284,16 +306,6 @@ class Case(Compound):
         for section in sections:
             found += [*section, columns.END_OF_SECTION]
         return _ruled(found) if rulers else found
-
-    def _branch_cards(self) -> typing.Iterator[Written | str]:
-        """The cards of the branches, with those that make the fields of series branches wide or narrow."""
-        wide = False
-        for branch in self._draft.contents.branches:
-            for card in branch.cards:
-                if card.kind in (columns.SERIES, columns.WIDE) and (card.kind is columns.WIDE) != wide:
-                    wide = not wide
-                    yield f"$VINTAGE, {int(wide)}"
-                yield card
 
     # ---- answers of the program
 
@@ -324,6 +336,8 @@ class Case(Compound):
         if exact:
             note, found = self._computed(timeout)
             found.path = f"{os.path.join(*place)}.cfg" if place else ""
+        if place:
+            self._heard += self._told_of_file(f"{os.path.join(*place)}.cfg")[:1]
         self.end_of_run = end_of(note, self.dt)
         if not found.names and not found.state_names:
             self._heard.append("no output is asked for, so the record has no channel")
@@ -342,6 +356,7 @@ class Case(Compound):
             names = [program.path_of(it) for it in (cfg, dat)]
             note = self._answer(["run"], names, (0, 3), (cfg, dat), timeout)
             found = read(*names)
+            self._named(found)
             if place:
                 texts = [self.text().encode(), *(pathlib.Path(it).read_bytes() for it in names)]
                 _save(*place, dict(zip(("case", "cfg", "dat"), texts)))
@@ -354,22 +369,50 @@ class Case(Compound):
     def _computed(self, timeout: float | None) -> tuple[str, Record]:
         """The note of a run, and its values with all digits."""
         note, _, lines = self._answer(["judge", "--samples"], [], timeout=timeout).partition("\n")
-        names, states = self._analog_names(), self._status_names()
+        own = self._form()
+        names, states = [it.own for it in own.channels], [name for name, _ in own.states]
         values = whole_values(lines, len(names) + len(states), "emtp_judge")
         units = [UNITS.get(name.split(" ")[0], "PU") for name in names]
-        return note, computed(names, units, states, values, self.dt * self.every)
+        found = computed(names, units, states, values, self.dt * self.every)
+        self._named(found)
+        return note, found
+
+    def _named(self, found: Record) -> None:
+        """Gives the channels of a record their names as they were asked for, and takes away what wasn't; tells which
+        arresters lie off their characteristics."""
+        own = self._form()
+        analogs = found._configuration.analogs
+        for place, channel in enumerate(own.channels):
+            if channel.factor != 1:
+                it = analogs[place]
+                factors = dict(multiplier=it.multiplier * channel.factor, offset=it.offset * channel.factor)
+                analogs[place] = dataclasses.replace(it, **factors)
+        found.names[:] = self.names
+        asked = [name for name, asked in own.states if asked]
+        found.state_names[:] = distinct(asked, set(found.names), [])
+        found.told += [str(it) for it in self.off(found) if it.recorded_v > (1 + TELLS) * it.on_v]
+
+    def off(self, found: Record, part: float = PART) -> list[Off]:
+        """Of each arrester with segments: how many samples of a record of `run` lie off its characteristic by more than
+        `part` of its first point's voltage, by how much, and the greatest voltages of all samples and of those on it.
+
+        The record has to have the arrester's current and voltage (`ask="iu"`), or its node's voltage beside the filtered
+        channel.
+        """
+        names = {channel: name for name, channel in self._form().filtered.items() if name in found.names}
+        return self._offs(found, part, names)
 
     def _cure(self, end: End) -> str:
         """What may help where a run left the range beside an inductance."""
-        beside = [it for it in self._draft.contents.branches if end.name in it.ends and it.l_mh > 0]
+        beside = [it for it in self._form().contents.branches if end.name in it.ends and it.l_mh > 0]
         if end.cause != "RANGE" or not beside:
             return ""
         limits = ", ".join(f"{it.name} at {1e9 * self.dt / (2e-3 * it.l_mh):.3g} A" for it in beside)
-        return f"; an inductance leaves it by its current ({limits}): peak_a cuts it into pieces in series"
+        return f"; an inductance leaves it by its current ({limits}): with form='flux' it doesn't"
 
     def steady(self) -> Steady:
         """The voltages of the nodes in the steady state of the frequency of its sources (docs/phasor.md)."""
-        return steady_of(self._answer(["phasor"]))
+        return steady_of(self._answer(["phasor"], plain=True))
 
     def scan(self, first: int, last: int, step: int) -> Scan:
         """The impedance that the one source sees, from a first to a last frequency in whole Hz (docs/phasor.md)."""
@@ -378,8 +421,8 @@ class Case(Compound):
             raise CaseError(
                 "the first frequency has to be at most the last one, and 10,000 of them are scanned at most"
             )
-        lines = self._lines()
-        return scan_of(self._answer(["scan"], words), lambda line: _card_at(lines, line)[0])
+        lines = self._lines(plain=True)
+        return scan_of(self._answer(["scan"], words, plain=True), lambda line: _card_at(lines, line)[0])
 
     def batch(
         self, closings: typing.Sequence | np.ndarray, openings: typing.Sequence | np.ndarray | None = None
@@ -408,7 +451,24 @@ class Case(Compound):
         late = sum(min(float(it) for it in row.split() if it != "-") > self.end + 5e-13 for row in rows)
         if late:
             self._heard.append(f"of {late} of {len(rows)} rows all times lie behind the end of the run, {self.end:g} s")
-        return batch_of(notes, self.names)
+        return self._filtered_batch(batch_of(notes, self.names))
+
+    def _filtered_batch(self, found: Batch) -> Batch:
+        """The batch with its channels as they were asked for, and the arresters' peaks on their characteristics."""
+        own = self._form()
+        recorded = found.peaks * np.abs([it.factor for it in own.channels])
+        peaks = recorded.copy()
+        for name, channel in own.filtered.items():
+            if name in found.names:
+                column, on = found.names.index(name), found.channel(channel)
+                off = int((recorded[:, column] > (1 + TELLS) * on).sum())
+                peaks[:, column] = on
+                if off:
+                    self._heard.append(
+                        f"{name}: in {off} of {len(on)} rows samples lie off the arrester's characteristic; its peaks are "
+                        f"those on it, up to {on.max():.5g} V where {recorded[:, column].max():.5g} V were recorded"
+                    )
+        return dataclasses.replace(found, peaks=peaks, recorded=recorded)
 
     def _row(self, closing: list[float], opening: list[float]) -> str:
         """A row of a table of times: a closing and an opening time for each time switch, tied ones among them."""
@@ -426,10 +486,10 @@ class Case(Compound):
             items += [_time(close_s), "-" if open_s is None else _time(open_s)]
         return " ".join(items)
 
-    def show(self) -> listing.Listing:
+    def show(self, plain: bool = False) -> listing.Listing:
         """What the program reads of the case: each record with its line, values and units, and the warnings
-        (docs/show.md)."""
-        return listing.read(self._answer(["show"]))
+        (docs/show.md); with `plain` of its plain form."""
+        return listing.read(self._answer(["show"], plain=plain))
 
     def _answer(
         self,
@@ -438,10 +498,11 @@ class Case(Compound):
         good: tuple[int, ...] = (0,),
         files: tuple[int, ...] = (),
         timeout: float | None = None,
+        plain: bool = False,
     ) -> str:
         """What a command prints of the case, which stands between these words; what isn't good is raised."""
-        lines = self._lines()
-        self._heard, self._unheard, text = [], None, self.text().encode()
+        lines = self._lines(plain=plain)
+        self._heard, self._unheard, text = [], None, self.text(plain=plain).encode()
         with program.memory(text) as case:
             words = [*before, program.path_of(case), *behind]
             ended = program.run(words, files=(case, *files), timeout=timeout)
@@ -459,6 +520,17 @@ class Case(Compound):
         raise CaseError(
             f"emtp {before[0]} ended with status {ended.status}: {told[:1000] or STATUSES.get(ended.status, NOTHING)}"
         )
+
+
+def _branch_cards(contents: Contents) -> typing.Iterator[Written | str]:
+    """The cards of the branches, with those that make the fields of series branches wide or narrow."""
+    wide = False
+    for branch in contents.branches:
+        for card in branch.cards:
+            if card.kind in (columns.SERIES, columns.WIDE) and (card.kind is columns.WIDE) != wide:
+                wide = not wide
+                yield f"$VINTAGE, {int(wide)}"
+            yield card
 
 
 def _warned(text: bytes) -> list[str]:

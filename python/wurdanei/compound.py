@@ -1,24 +1,28 @@
 """Compound calls, which write several cards: a smooth start, a waveform by points, poles that close together, a
 transformer by the control."""
 
+from __future__ import annotations
+
 import typing
 
 import numpy as np
 
 from . import columns, fields
-from .control import Control
 from .ct import in_case
 from .draft import CaseError, Switch, joined, writes
 from .formula import FUNCTIONS
-from .network import Network, Three, three_names
+from .network import Three, three_names
+from .surge_arrester import SurgeArresters
+
+if typing.TYPE_CHECKING:
+    from .data import Source3, Transformer
 
 SUMMANDS = 10  # variables of six characters that one formula adds up at most
 
 
-class Compound(Network):
+class Compound(SurgeArresters):
     """Writes several cards a call, through the methods of the network and the control."""
 
-    control: Control
     ct = in_case  # a saturable current transformer
 
     # ---- sources that the control drives
@@ -98,6 +102,31 @@ class Compound(Network):
         self.control.formula(node, "+".join(pieces))
         self.driven(node, current=current)
 
+    @writes
+    def source3(self, a: Three, source: Source3, *, angle_deg: float = 0.0, cycles: float = 5.0) -> None:
+        """A three-phase source of wurdanei.data at three nodes: branches from each phase to ground and between the phases, and
+        a current into each, which rises smoothly over so many cycles.
+
+        `angle_deg` is that of the voltage of a[0] behind the impedance; a[1] is 120 degrees behind it, a[2] 240.
+        """
+        a = three_names(a, "a")
+        for node in a:
+            self.series(node, r_ohm=source.to_ground[0], l_mh=source.to_ground[1])
+        if source.between:
+            for one, other in zip(a, [*a[1:], a[0]]):
+                self.series(one, other, r_ohm=source.between[0], l_mh=source.between[1])
+        for phase, node in enumerate(a):
+            into = self._behind(node, "SC")
+            degrees = angle_deg - 120.0 * phase - source.behind_deg
+            self.smooth_cosine(into, amplitude_a=source.amplitude_a, hz=source.hz, phase_deg=degrees, cycles=cycles)
+
+    def _behind(self, node: str, stem: str) -> str:
+        """A node behind a measuring switch of its own, whose name the control has for what is driven there."""
+        found = self._draft.unused(stem)
+        self.measuring(found, node, ask="")
+        self._draft.contents.switches[-1].made = True
+        return found
+
     # ---- poles
 
     @writes
@@ -171,6 +200,99 @@ class Compound(Network):
         of an error back and forth). Capacitances at `primary` make it worse; a resistance across it, better. `ask` is
         as of the leakage's branch.
         """
+        self._winding((primary, ""), secondary, ratio=ratio, l_mh=l_mh, r_ohm=r_ohm, behind_mh=behind_mh, ask=ask)
+
+    def _winding(
+        self,
+        primary: tuple[str, str],
+        secondary: str,
+        *,
+        ratio: float,
+        l_mh: float,
+        r_ohm: float,
+        behind_mh: float,
+        ask: str,
+    ) -> None:
+        """Two windings of a transformer: the primary one between two nodes, the secondary one behind its leakage to ground."""
+        part = self._stable(ratio, l_mh, behind_mh)
+        induced, inner = self._draft.unused("E"), self._draft.unused("X")
+        drawn = {node: self._draft.unused("P") for node in primary if node}
+        for node, into in drawn.items():
+            self.measuring(node, into, ask="")
+        self.measuring(induced, inner, ask="")
+        self.series(inner, secondary, r_ohm=r_ohm, l_mh=l_mh, ask=ask)
+        factor = fields.fitted(ratio, columns.TABLE_POINT.field("input")).text
+        self.control.current(inner)
+        volts = "-".join(self._measured(node) for node in drawn)
+        self.control.formula(induced, f"{factor}*({volts})" if primary[1] else f"{factor}*{volts}")
+        for sign, into in zip(("-", ""), drawn.values()):
+            self.control.formula(into, f"{sign}{factor}*{inner}")
+        self.driven(induced)
+        for into in drawn.values():
+            self.driven(into, current=True)
+        self._tell_ratio(primary[0], secondary, ratio, part)
+
+    @writes
+    def transformer3(
+        self, primary: Three, secondary: Three, transformer: Transformer, *, behind_mh: float, ask: str = ""
+    ) -> None:
+        """A three-phase transformer of wurdanei.data, of two windings a phase, each by `transformer` of this class.
+
+        `behind_mh` is the inductance behind a primary node, as it sees it; `ask` as of the leakages' branches. A winding in
+        delta goes from node k to the one before (Dyn1, YNd11) or behind it (Dyn11, YNd1).
+        """
+        primary, secondary = three_names(primary, "primary"), three_names(secondary, "secondary")
+        next_one = 1 if transformer.group in ("Dyn11", "YNd1") else -1
+        for k in range(3):
+            other = (k + next_one) % 3
+            one = primary[k], primary[other] if transformer.group.startswith("D") else ""
+            if transformer.core_ohm:
+                self.series(*one, r_ohm=transformer.core_ohm)
+            if len(transformer.points) > 1:
+                self.reactor(*one, points=transformer.points)
+            else:
+                amperes, webers = transformer.points[0]
+                self.series(*one, l_mh=1e3 * webers / amperes)
+            values = dict(ratio=transformer.ratio, l_mh=transformer.l_mh, r_ohm=transformer.r_ohm)
+            behind = transformer.windings * behind_mh
+            if transformer.group.startswith("YNd"):
+                self._delta_winding(primary[k], (secondary[k], secondary[other]), **values, behind_mh=behind, ask=ask)
+            else:
+                self._winding(one, secondary[k], **values, behind_mh=behind, ask=ask)
+
+    def _delta_winding(
+        self,
+        primary: str,
+        secondary: tuple[str, str],
+        *,
+        ratio: float,
+        l_mh: float,
+        r_ohm: float,
+        behind_mh: float,
+        ask: str,
+    ) -> None:
+        """Two windings of a transformer: the primary one to ground, the secondary one between two nodes. In place of its voltage
+        behind the leakage stands the current that a block of the control makes of it, beside the leakage."""
+        part = self._stable(ratio, l_mh, behind_mh)
+        drawn, first, second = (self._behind(node, "P") for node in (primary, *secondary))
+        inner, induced = self._draft.unused("X"), self._draft.unused("E")
+        self.measuring(secondary[0], inner, ask="")
+        self._draft.contents.switches[-1].made = True
+        self.series(inner, secondary[1], r_ohm=r_ohm, l_mh=l_mh, ask=ask)
+        self._measured(primary)
+        self.control.current(inner)
+        # V over mH is A a ms
+        self.control.block(induced, primary, numerator=[1e3 * ratio], denominator=[1e3 * r_ohm, l_mh])
+        factor = fields.fitted(ratio, columns.TABLE_POINT.field("input")).text
+        self.control.formula(first, induced)
+        self.control.formula(second, f"-{induced}")
+        self.control.formula(drawn, f"-{factor}*({induced}-{inner})")
+        for node in (drawn, first, second):
+            self.driven(node, current=True)
+        self._tell_ratio(primary, secondary[0], ratio, part)
+
+    def _stable(self, ratio: float, l_mh: float, behind_mh: float) -> float:
+        """The part of an error that each step takes back and forth, below 1."""
         for what, value in (("ratio", ratio), ("l_mh", l_mh), ("behind_mh", behind_mh)):
             fields.exact(value, what)
         if not (ratio > 0 and l_mh > 0 and behind_mh >= 0):
@@ -181,16 +303,9 @@ class Compound(Network):
                 f"the ratio by the control is stable where behind_mh * ratio^2, {behind_mh * ratio**2:g} mH, is below "
                 f"l_mh, {l_mh:g} mH: put more of the leakage on the secondary side, or less in front of the primary node"
             )
-        induced, inner, drawn = self._draft.unused("E"), self._draft.unused("X"), self._draft.unused("P")
-        self.measuring(primary, drawn, ask="")
-        self.measuring(induced, inner, ask="")
-        self.series(inner, secondary, r_ohm=r_ohm, l_mh=l_mh, ask=ask)
-        factor = fields.fitted(ratio, columns.TABLE_POINT.field("input")).text
-        self.control.current(inner)
-        self.control.formula(induced, f"{factor}*{self._measured(primary)}")
-        self.control.formula(drawn, f"-{factor}*{inner}")
-        self.driven(induced)
-        self.driven(drawn, current=True)
+        return part
+
+    def _tell_ratio(self, primary: str, secondary: str, ratio: float, part: float) -> None:
         self._draft.tell(
             f"{joined((primary, secondary))}: a ratio of {ratio:g} by the control, one step late each way, which takes "
             f"{part:.2g} of an error back and forth"

@@ -132,6 +132,8 @@ class Control:
         if not gain:
             raise CaseError("a gain of 0 is read as 1; a block that is 0 isn't needed")
         card = columns.BLOCK
+        if order and fields.fitted(gain, card.field("gain")).loss > fields.KEEPS:
+            numerator, gain = [gain * it for it in numerator], 1.0  # whose fields have more columns
         texts = {"order": str(order) if order else "", "name": self._new(name)} | self._inputs(card, inputs)
         texts["gain"] = "" if gain == 1 else self._number(card, "gain", gain, name)
         limits = {side: self._limit(side, limit, name) for side, limit in (("low", low), ("high", high))}

@@ -1,5 +1,6 @@
 """What a case is made of while it is written: its cards, with the calls that wrote them, and what was told."""
 
+import contextlib
 import copy
 import functools
 import os
@@ -13,6 +14,8 @@ import numpy as np
 from . import columns, fields
 from .columns import Card
 from .fields import FieldError, Fitted
+from .inductance import Inductance
+from .line_values import Rescaled
 
 FEWEST_STEPS = 20  # of a period, below which a wave isn't seen as one
 PACKAGE = os.path.dirname(os.path.abspath(__file__))
@@ -56,14 +59,27 @@ class Written:
 
 @dataclass
 class Branch:
-    """A branch, with its cards: those of its points, or of its phase of a line, among them."""
+    """A branch, with its cards: those of its points, or of its phase of a line, among them.
+
+    `instead` stands for it wherever it is run, and its own cards where plain ones are wanted; `beside` does where there
+    is room for all of it. `asked_as` are the ends by which its channels are named, where these aren't its own, and
+    `factor` what its current is multiplied by for them.
+    """
 
     kind: str  # series, line, second, third, resistor, reactor
     ends: tuple[str, str]
     asked: int
     cards: list[Written]
     steps: int = 0  # of a line: whole time steps of its travel time
+    given: dict[str, typing.Any] = field(default_factory=dict)  # what a copy that is written anew is given
     l_mh: float = 0.0
+    whole: list[Written] = field(default_factory=list)  # of a copy: the cards with values of its own
+    barred: str = ""  # why its own cards can't be written, in words
+    instead: "Contents | None" = field(default=None, repr=False)
+    beside: "Contents | None" = field(default=None, repr=False)
+    asked_as: tuple[str, str] | None = None
+    factor: float = 1.0
+    filtered: str = ""  # of an arrester: the channel that has its voltage while that lies on the characteristic
 
     @property
     def name(self) -> str:
@@ -89,6 +105,7 @@ class Switch:
     open_s: float | None = None
     leader: "Switch | None" = field(default=None, repr=False)
     later_s: tuple[float, float] = (0.0, 0.0)
+    made: bool = False  # by another call than one of a switch: its state is no channel of the answers
 
     @property
     def name(self) -> str:
@@ -111,6 +128,8 @@ class Asked:
 
     names: tuple[str, ...]
     card: Written
+    asked_as: str = ""  # the channel's name, where it isn't that of the card
+    factor: float = 1.0  # what it is multiplied by
 
 
 @dataclass
@@ -141,10 +160,24 @@ class Contents:
     ramps: dict[float, str] = field(default_factory=dict)  # the variables of smooth starts, by their time in s
     control: bool = False
     told: list[str] = field(default_factory=list)
+    inductances: list[Inductance] = field(default_factory=list)
+    lines: list[Rescaled] = field(default_factory=list)
 
     def copied(self) -> "Contents":
         """The same, with lists of its own."""
         return Contents(**{name: copy.copy(value) for name, value in vars(self).items()})
+
+    def aside(self) -> "Contents":
+        """Room for cards that don't stand in the case yet; names that are taken stay so."""
+        return Contents(
+            nodes=self.nodes,
+            variables=self.variables,
+            reserved=self.reserved,
+            inductances=self.inductances,
+            lines=self.lines,
+            ramps=self.ramps,
+            told=self.told,
+        )
 
 
 def joined(ends: tuple[str, str]) -> str:
@@ -196,11 +229,22 @@ class Draft:
         self.contents = Contents()
         self.call: Call | None = None
         self.dt_ps = 0
+        self.steps = 0
 
     @property
     def dt(self) -> float:
         """The time step in s."""
         return self.dt_ps / 1e12
+
+    @contextlib.contextmanager
+    def aside(self) -> typing.Iterator[Contents]:
+        """What is written within stands in the contents that are answered, and not in the case."""
+        whole = self.contents
+        self.contents = whole.aside()
+        try:
+            yield self.contents
+        finally:
+            self.contents = whole
 
     def tell(self, words: str) -> None:
         """Tells something, once."""

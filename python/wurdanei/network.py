@@ -2,16 +2,19 @@
 
 import math
 import typing
+from decimal import Decimal
 
-from . import columns, fields
+from . import columns, fields, inductance, line_values
 from .columns import Card
-from .draft import Asked, Branch, CaseError, Draft, Source, Switch, Written, joined, writes
+from .draft import Asked, Branch, CaseError, Contents, Draft, Source, Switch, Written, joined, writes
 from .fields import Fitted
+from .inductance import LEAST_OHM, MOST_OHM, Inductance
 
 ASKED = {"": 0, "i": 1, "u": 2, "iu": 3, "ui": 3}
 MOST_NODES, MOST_BRANCHES, MOST_SWITCHES, MOST_SOURCES, MOST_POINTS = 1000, 5000, 500, 500, 64
-LEAST_OHM, MOST_OHM = 10, 10**15  # of an impedance, in micro-ohm
-Points = typing.Sequence[tuple[float, float]]
+NEVER_V = 1e9  # the ignition voltage of a valve that never closes: no voltage of a run passes it
+Number = float | Decimal
+Points = typing.Sequence[tuple[Number, Number]]
 Three = typing.Sequence[str]
 Ends = tuple[str, str]
 
@@ -37,80 +40,154 @@ class Network:
         l_mh: float = 0.0,
         c_uf: float = 0.0,
         peak_a: float | None = None,
+        form: str | None = None,
         like: Ends | None = None,
         ask: str = "",
     ) -> None:
         """Resistance, inductance and capacitance in series, of which each may be absent.
 
-        With `peak_a`, the greatest current to come in A, an inductance that would leave the range of the program (2 L
-        i / dt below 1e9 V) is cut into pieces in series; `told` says so. `like` are the ends of an earlier series
-        branch whose values are taken. Ranges: 0 to 1e9 ohm, 0 to 1e9 mH, 0 to 1e6 uF.
+        An inductance is written as a series branch where that keeps a current to 1e-4 over the run and has the range for
+        `peak_a`, the greatest current to come in A (100 kA without it), else by its flux, as a reactor of one point,
+        which `told` says; `form` is "plain" or "flux" where it shan't be chosen. A capacitance of which a single branch
+        would be off by more than 1e-5 is written as several side by side. Nodes that this takes have names of their
+        own; channels are named by a and b all the same. `like` are the ends of an earlier series branch whose values
+        are taken. Ranges: 0 to 1e9 ohm, 0 to 1e9 mH, 0 to 1e6 uF.
         """
         if like is not None:
             self._without(r_ohm=r_ohm, l_mh=l_mh, c_uf=c_uf, peak_a=peak_a or 0.0)
             self._series_copy(a, b, like, ask)
             return
-        values = (r_ohm, l_mh, c_uf)
-        pieces = 1 if peak_a is None else self._pieces(l_mh, peak_a)
-        if peak_a is None or pieces == 1:
-            self._series(a, b, values, ask)
-        else:
-            self._cut(a, b, values, pieces, peak_a, ask)
+        if form not in (None, "plain", "flux"):
+            raise CaseError(f"form is 'plain' or 'flux', and here {form!r}")
+        self._series(a, b, (r_ohm, l_mh, c_uf), ask, peak_a, form)
 
-    def _series(self, a: str, b: str, values: tuple[float, float, float], ask: str) -> None:
-        """One series branch of these R, L and C."""
+    def _series(
+        self, a: str, b: str, values: tuple[float, float, float], ask: str, peak_a: float | None, form: str | None
+    ) -> None:
+        """One series branch of these R, L and C, in the form that serves it."""
         ends = self._ends(a, b)
-        kind, fitted = self._series_values(values, joined(ends))
-        r, l, c = (it.kept for it in fitted)
-        z = r + _near(2 * 10**9 * l, self._draft.dt_ps) + (_near(10**9 * self._draft.dt_ps, 2 * c) if c else 0)
-        if not LEAST_OHM <= z <= MOST_OHM:
+        draft, name = self._draft, joined(ends)
+        kind, fitted = self._series_values(values, name)
+        kept = r, l, c = fitted[0].kept, fitted[1].kept, fitted[2].kept
+        fields.exact(inductance.PEAK_A if peak_a is None else peak_a, "peak_a")
+        found = None
+        if l:
+            found = inductance.judged(name, draft.dt_ps, draft.steps, kept, peak_a or inductance.PEAK_A, form)
+            draft.contents.inductances.append(found)
+        by_flux = found is not None and found.form == "flux"
+        if by_flux and not c and 0 < r < LEAST_OHM:  # a branch of its own would be below the least impedance
+            draft.tell(
+                f"{name}: its R, {values[0]:g} ohm, is left out beside the inductance, since it is below 1e-5 ohm"
+            )
+            values, kept, r = (0.0, *values[1:]), (0, l, c), 0
+        if by_flux and not inductance.has_slope(draft.dt_ps, l):
             raise CaseError(
-                f"R + 2 L / dt + dt / (2 C) is {z / 1e6:g} ohm with a step of {self._draft.dt:g} s, "
+                f"dt / (2 L) of {values[1]:g} mH has to lie from 1e-12 to 1e5 S with a step of {draft.dt:g} s"
+            )
+        z = inductance.impedance(draft.dt_ps, r, 0 if by_flux else l, c)
+        if not (LEAST_OHM <= z <= MOST_OHM or by_flux and z == 0):
+            raise CaseError(
+                f"R + 2 L / dt + dt / (2 C) is {z / 1e6:g} ohm with a step of {draft.dt:g} s, "
                 "and has to lie from 1e-5 to 1e9 ohm"
             )
-        texts = {name: it.text if it.kept else "" for name, it in zip("RLC", fitted)}
-        self._branch(
-            "series", ends, ask, [self._draft.written(kind, self._bus(ends) | texts | _asking(ask))], l_mh=values[1]
-        )
+        texts = {it: fit.text if fit.kept else "" for it, fit in zip("RLC", fitted)}
+        cards = [draft.written(kind, self._bus(ends) | texts | asking(ask))]
+        given = dict(values=values, peak_a=peak_a, form=form)
+        instead = self._instead(ends, values, kept, ask, found if by_flux else None)
+        barred = ""
+        if inductance.impedance(draft.dt_ps, *kept) > MOST_OHM:
+            barred = (
+                f"{name}: as a series branch, which steady(), scan() and plain=True take, {found.why if found else ''}"
+            )
+        self._branch("series", ends, ask, cards, l_mh=values[1], given=given, instead=instead, barred=barred)
 
-    def _series_values(self, values: tuple[float, float, float], name: str) -> tuple[Card, list[Fitted]]:
-        """The fields of R, L and C: narrow ones where these hold the values with a blank between them, else wide
+    def _instead(
+        self,
+        ends: Ends,
+        values: tuple[float, float, float],
+        kept: tuple[int, int, int],
+        ask: str,
+        flux: Inductance | None,
+    ) -> Contents | None:
+        """What stands for a series branch where one card isn't exact enough: a reactor, what is left of the branch, and
+        pieces of its capacitance, one behind the other; the first of them has the current, an open valve the voltage.
+        """
+        (r, l, c), draft = kept, self._draft
+        parts = inductance.pieces(draft.dt_ps, c) if c else []
+        if c and (left := inductance.off(draft.dt_ps, parts, c)) > 10 * inductance.OFF:
+            draft.tell(
+                f"{joined(ends)}: {values[2]:g} uF are {100 * float(left):.3g} % off, by dt / (2 C) in whole micro-ohm"
+            )
+        single = c if len(parts) < 2 else 0
+        rest = (values[0] if r else 0.0, values[1] if l and not flux else 0.0, values[2] if single else 0.0)
+        links = [name for name, there in (("flux", flux), ("rest", any(rest)), ("pieces", parts[1:])) if there]
+        if links == ["rest"]:
+            return None
+        with draft.aside() as aside:
+            nodes = [ends[0], *(draft.unused("L.") for _ in links[1:]), ends[1]]
+            for place, (link, own) in enumerate(zip(links, zip(nodes, nodes[1:]))):
+                asked = "i" * (place == 0 and "i" in ask) + "u" * (len(links) == 1 and "u" in ask)
+                if link == "flux":
+                    amperes, webers = (Decimal(it.numerator) / it.denominator for it in inductance.point(l))
+                    self._nonlinear("reactor", "98", *own, [(amperes, webers)], None, asked)
+                elif link == "rest":
+                    self._plain(own, rest, asked)
+                else:
+                    self._side_by_side(own, parts, asked)
+            for branch in aside.branches:
+                branch.asked_as = ends
+            if "u" in ask and len(links) > 1:
+                self._watched(ends)
+        made = f"; made for it: {', '.join(nodes[1:-1])}" if links[1:] else ""
+        if flux:
+            draft.tell(f"{flux}{made}")
+        if parts[1:]:
+            draft.tell(
+                f"{joined(ends)}: {values[2]:g} uF stand as {len(parts)} capacitances side by side, since dt / (2 C) in "
+                f"whole micro-ohm is that of {100 * float(inductance.off(draft.dt_ps, [c], c)):.2g} % another one"
+                + (made if not flux else "")
+            )
+        return aside
+
+    def _plain(self, ends: Ends, values: tuple[Number, Number, Number], ask: str) -> None:
+        """A series branch of one card."""
+        kind, fitted = self._series_values(values, joined(ends))
+        texts = {it: fit.text if fit.kept else "" for it, fit in zip("RLC", fitted)}
+        self._branch("series", ends, ask, [self._draft.written(kind, self._bus(ends) | texts | asking(ask))])
+
+    def _side_by_side(self, ends: Ends, parts: list[int], ask: str) -> None:
+        """Capacitances of so many fF between two nodes; of the first one's current theirs is a fixed multiple."""
+        for place, part in enumerate(parts):
+            c_uf = Decimal(part).scaleb(-9)
+            self._plain(ends, (0.0, 0.0, c_uf), ask if place == 0 else "")
+        self._draft.contents.branches[-len(parts)].factor = sum(parts) / parts[0]
+
+    def _watched(self, ends: Ends) -> None:
+        """A valve that never closes, for the voltage between two nodes."""
+        texts = {"type": "11"} | self._bus(ends) | asking("u")
+        texts["ignition"] = self._draft.number(columns.VALVE, "ignition", NEVER_V, joined(ends)).text
+        self._switch(Switch("valve", ends, ASKED["u"], self._draft.written(columns.VALVE, texts), made=True))
+
+    def _series_values(self, values: tuple[Number, Number, Number], name: str) -> tuple[Card, list[Fitted]]:
+        """The fields of R, L and C: narrow ones where these hold the values whole with a blank between them, else wide
         ones."""
         try:
             narrow = [fields.fitted(value, columns.SERIES.field(it), 5) for it, value in zip("RLC", values)]
-            if all(it.loss <= fields.KEEPS for it in narrow):
+            if all(it.loss == 0 for it in narrow):
                 return columns.SERIES, narrow
         except fields.FieldError:
             pass  # judged by the wide fields
         return columns.WIDE, [self._draft.number(columns.WIDE, it, value, name) for it, value in zip("RLC", values)]
 
     def _series_copy(self, a: str, b: str, like: Ends, ask: str) -> None:
-        ends = self._ends(a, b)
         copied = self._copied("series", like)
-        texts = self._bus(ends) | _copying(like) | _asking(ask)
-        self._branch("series", ends, ask, [self._draft.written(columns.SERIES, texts)], l_mh=copied.l_mh)
-
-    def _pieces(self, l_mh: float, peak_a: float) -> int:
-        """Into how many pieces an inductance has to be cut: 2 L i / dt stays below nine tenths of 1e9 V in each."""
-        fields.exact(l_mh, "l_mh"), fields.exact(peak_a, "peak_a")
-        return max(1, math.ceil(2e-3 * l_mh * abs(peak_a) / self._draft.dt / 0.9e9))
-
-    def _cut(self, a: str, b: str, values: tuple[float, float, float], pieces: int, peak_a: float, ask: str) -> None:
-        if "u" in ask:
-            raise CaseError(
-                "an inductance that is cut has no voltage as one channel: ask for the voltages of its nodes"
-            )
-        self._ends(a, b)
-        inner = [self._draft.unused("L.") for _ in range(pieces - 1)]
-        r_ohm, l_mh, c_uf = values
-        piece = fields.exact(l_mh, "l_mh") / pieces
-        for number, (one, other) in enumerate(zip([a, *inner], [*inner, b])):
-            first = number == 0
-            self._series(one, other, (r_ohm if first else 0.0, piece, c_uf if first else 0.0), ask if first else "")
-        self._draft.tell(
-            f"{joined((a, b))}: {l_mh:g} mH are cut into {pieces} pieces in series, since 2 L i / dt would be "
-            f"{2e-3 * l_mh * abs(peak_a) / self._draft.dt:.3g} V at {peak_a:g} A; their nodes are {', '.join(inner)}"
-        )
+        ends = self._ends(a, b)
+        card = self._draft.written(columns.SERIES, self._bus(ends) | copying(like) | asking(ask))
+        if copied.instead is None:
+            self._branch("series", ends, ask, [card], l_mh=copied.l_mh, given=copied.given)
+        else:
+            self._series(a, b, copied.given["values"], ask, copied.given["peak_a"], copied.given["form"])
+            self._draft.contents.branches[-1].cards = [card]  # of the plain form
 
     @writes
     def line(
@@ -180,17 +257,17 @@ class Network:
             card, own = self._mode(("-1", "-2")[phase], ends[phase], given, asks[phase], f"{name} sequence: ")
             cards.append(card)
             steps.append(own)
-        texts = {"type": "-3"} | self._bus(ends[2]) | _asking(asks[2])
+        texts = {"type": "-3"} | self._bus(ends[2]) | asking(asks[2])
         cards.append(self._draft.written(columns.LINE, texts))
         for kind, own, asked, card, count in zip(("line", "second", "third"), ends, asks, cards, [*steps, 0]):
             self._branch(kind, own, asked, [card], steps=count)
 
     def _mode(self, kind: str, ends: Ends, given: dict, ask: str, what: str = "") -> tuple[Written, int]:
         """The card -1 or -2 of these values, and the whole steps of its travel time."""
-        texts = {"type": kind} | self._bus(ends) | _asking(ask)
+        texts = {"type": kind} | self._bus(ends) | asking(ask)
         if "like" in given:
             copied = self._copied("line" if kind == "-1" else "second", given["like"])
-            return self._draft.written(columns.LINE, texts | _copying(given["like"])), copied.steps
+            return self._draft.written(columns.LINE, texts | copying(given["like"])), copied.steps
         unknown = given.keys() - {"length", "r_ohm", "l_mh", "c_uf", "zc_ohm", "velocity", "tau_us"}
         if unknown:
             raise CaseError(f"{what}a line has no {', '.join(sorted(unknown))}")
@@ -206,22 +283,38 @@ class Network:
                 f"{what}a line is given by l_mh and c_uf, by zc_ohm and velocity, or by zc_ohm and tau_us, "
                 f"and here by {' and '.join(values) or 'nothing'}"
             )
+        fitted, iline = self._line_fields(iline, given, what, joined(ends))
+        steps = self._judged_line(iline, *(it.kept for it in fitted.values()), what)
+        texts |= {key: it.text for key, it in fitted.items() if it.kept} | {"ILINE": str(iline) if iline else ""}
+        return self._draft.written(columns.LINES[iline], texts), steps
+
+    def _line_fields(self, iline: int, given: dict, what: str, name: str) -> tuple[dict[str, Fitted], int]:
+        """R, A, B and length of a line, by their fields in this order, and its ILINE: as they are given where their columns
+        hold that, else with the length in a unit that keeps surge impedance and travel time better."""
         card = columns.LINES[iline]
         first = given["l_mh"] if iline == 0 else given["zc_ohm"]
         second = (given.get("c_uf"), given.get("velocity"), given.get("tau_us"))[iline]
         if iline == 2:
             second = fields.exact(second, "tau_us").scaleb(-6)
-        name = what + joined(ends)
-        names = [field.name for field in columns.LINE_VALUES[iline]]
-        fitted = {
-            "R": self._draft.number(card, "R", given.get("r_ohm", 0.0), name),
-            names[0]: self._draft.number(card, names[0], first, name),
-            names[1]: self._draft.number(card, names[1], second, name),
-            "length": self._draft.number(card, "length", given.get("length", 1.0), name),
-        }
-        steps = self._judged_line(iline, *(it.kept for it in fitted.values()), what)
-        texts |= {key: it.text for key, it in fitted.items() if it.kept} | {"ILINE": str(iline) if iline else ""}
-        return self._draft.written(card, texts), steps
+        names = ["R", *(field.name for field in columns.LINE_VALUES[iline]), "length"]
+        values = [given.get("r_ohm", 0.0), first, second, given.get("length", 1.0)]
+        r, one, other, length = (float(fields.exact(value, key)) for key, value in zip(names, values))
+        if not (r >= 0 and min(one, other, length) > 0):
+            return {key: self._draft.number(card, key, value, what + name) for key, value in zip(names, values)}, iline
+        surge, travel = line_values.of_fields(iline, one, other, length)
+        own = None
+        try:
+            fitted = {key: fields.roomy(value, card.field(key)) for key, value in zip(names, values)}
+            own = line_values.made(iline, fitted, surge, travel, r * length)
+        except fields.FieldError:
+            pass  # a digit too many for six columns, or a range, which is judged below
+        if own is None or own.cost > fields.KEEPS:
+            other_unit = line_values.best(surge, travel, r * length)
+            if other_unit is not None and (own is None or other_unit.cost < own.cost):
+                lost = other_unit.surge, other_unit.travel, other_unit.resistance
+                self._draft.contents.lines.append(line_values.Rescaled(name, *lost))
+                return {key: other_unit.fields[key] for key in ("R", *list(other_unit.fields)[:3])}, other_unit.iline
+        return {key: self._draft.number(card, key, value, what + name) for key, value in zip(names, values)}, iline
 
     def _judged_line(self, iline: int, r: int, first: int, second: int, length: int, what: str) -> int:
         """The whole steps of the travel time of a line of these kept values; what is out of its range is refused."""
@@ -245,27 +338,22 @@ class Network:
         return int(tau // self._draft.dt_ps)
 
     @writes
-    def arrester(self, a: str, b: str = "", *, points: Points = (), like: Ends | None = None, ask: str = "") -> None:
-        """A nonlinear resistor: 1 to 64 points of current in A and voltage in V, both rising strictly.
+    def reactor(self, a: str, b: str = "", *, points: Points = (), like: Ends | None = None, ask: str = "") -> None:
+        """A nonlinear reactor: 1 to 64 points of current in A and flux in Wb, both rising strictly.
 
         The characteristic is odd, goes straight from point to point, from the origin to the first one, and on beyond
         the last. `like` are the ends of an earlier one whose points are taken.
         """
-        self._nonlinear("resistor", "99", a, b, points, like, ask)
-
-    @writes
-    def reactor(self, a: str, b: str = "", *, points: Points = (), like: Ends | None = None, ask: str = "") -> None:
-        """A nonlinear reactor: 1 to 64 points of current in A and flux in Wb, both rising strictly; as `arrester`."""
         self._nonlinear("reactor", "98", a, b, points, like, ask)
 
     def _nonlinear(self, kind: str, type_: str, a: str, b: str, points: Points, like: Ends | None, ask: str) -> None:
         ends = self._ends(a, b)
-        texts = {"type": type_} | self._bus(ends) | _asking(ask)
+        texts = {"type": type_} | self._bus(ends) | asking(ask)
         if like is not None:
             if len(points):
                 raise CaseError("a branch that copies has no points of its own: give like or points")
             self._copied(kind, like)
-            self._branch(kind, ends, ask, [self._draft.written(columns.NONLINEAR, texts | _copying(like))])
+            self._branch(kind, ends, ask, [self._draft.written(columns.NONLINEAR, texts | copying(like))])
             return
         cards = [self._draft.written(columns.NONLINEAR, texts), *self._characteristic(kind, points)]
         self._branch(kind, ends, ask, cards)
@@ -312,7 +400,7 @@ class Network:
     ) -> Switch:
         name = joined(ends)
         closing = -1.0 if close_s is None else close_s
-        texts = self._bus(ends) | _asking(ask)
+        texts = self._bus(ends) | asking(ask)
         texts["T-CLOSE"] = self._draft.number(columns.SWITCH, "T-CLOSE", closing, name).text
         if open_s is not None:
             texts["T-OPEN"] = self._draft.number(columns.SWITCH, "T-OPEN", open_s, name).text
@@ -325,7 +413,7 @@ class Network:
     def measuring(self, a: str, b: str = "", *, ask: str = "i") -> None:
         """A switch that is always closed: it joins its nodes, and measures the current between them."""
         ends = self._ends(a, b)
-        card = self._draft.written(columns.SWITCH, self._bus(ends) | {"word": "MEASURING"} | _asking(ask))
+        card = self._draft.written(columns.SWITCH, self._bus(ends) | {"word": "MEASURING"} | asking(ask))
         self._switch(Switch("measuring", ends, ASKED[ask], card))
 
     @writes
@@ -342,7 +430,7 @@ class Network:
         """A valve from a to b: it closes where its voltage is above 0 and at least `ignition_v` and its control, if
         it has one, is above 0; it opens where its current is below `holding_a`."""
         ends = self._ends(a, b)
-        texts = {"type": "11"} | self._bus(ends) | _asking(ask) | self._control(control)
+        texts = {"type": "11"} | self._bus(ends) | asking(ask) | self._control(control)
         for field, value in (("ignition", ignition_v), ("holding", holding_a)):
             found = self._draft.number(columns.VALVE, field, value, joined(ends))
             texts[field] = found.text if found.kept else ""
@@ -355,7 +443,7 @@ class Network:
         if not control:
             raise CaseError("a controlled switch has a control: the name of a variable")
         card = self._draft.written(
-            columns.VALVE, {"type": "13"} | self._bus(ends) | self._control(control) | _asking(ask)
+            columns.VALVE, {"type": "13"} | self._bus(ends) | self._control(control) | asking(ask)
         )
         self._switch(Switch("controlled", ends, ASKED[ask], card, control))
 
@@ -482,10 +570,12 @@ class Network:
     def _bus(self, ends: Ends) -> dict[str, str]:
         return {"BUS1": ends[0], "BUS2": ends[1]}
 
-    def _branch(self, kind: str, ends: Ends, ask: str, cards: list[Written], steps: int = 0, l_mh: float = 0.0) -> None:
+    def _branch(self, kind: str, ends: Ends, ask: str, cards: list[Written], **more: typing.Any) -> Branch:
         self._draft.bounded(self._draft.contents.branches, MOST_BRANCHES, "branches")
-        self._draft.contents.branches.append(Branch(kind, ends, ASKED[ask], cards, steps, float(l_mh)))
+        found = Branch(kind, ends, ASKED[ask], cards, **more)
+        self._draft.contents.branches.append(found)
         self._seen(ends)
+        return found
 
     def _seen(self, ends: Ends) -> None:
         """The nodes of a card; there is room for them."""
@@ -527,16 +617,11 @@ def three_names(names: Three, what: str) -> list[str]:
     return list(names)
 
 
-def _asking(ask: str) -> dict[str, str]:
+def asking(ask: str) -> dict[str, str]:
     if not isinstance(ask, str) or ask not in ASKED:
         raise CaseError(f"ask is '', 'i' for the current, 'u' for the voltage or 'iu' for both, and here {ask!r}")
     return {"asked": str(ASKED[ask]) if ask else ""}
 
 
-def _copying(like: Ends) -> dict[str, str]:
+def copying(like: Ends) -> dict[str, str]:
     return {"BUS3": like[0], "BUS4": like[1]}
-
-
-def _near(part: int, whole: int) -> int:
-    """A quotient of two numbers that aren't negative, rounded to the nearest, a half away from zero."""
-    return (2 * part + whole) // (2 * whole)
