@@ -9,7 +9,10 @@ import sys
 
 COMMANDS = {  # the word, its module, what it does
     "arrester": ("arrester", "energy, charge and crests of an arrester, and the insulation beside it"),
+    "atp": ("atp", "reads a deck of ATP as far as it is alike, and writes the case"),
     "compare": ("compare", "lays the record of a case beside a measured one"),
+    "converge": ("converge", "runs a case at its step, a half and a quarter, and says what a smaller step changes"),
+    "lineconst": ("lineconst", "computes the constants of an overhead line from its tower"),
     "convert": ("convert", "makes another COMTRADE record of a record, or a table (csv)"),
     "ct": ("current_transformers", "writes the secondary currents of saturable current transformers"),
     "locate": ("locate", "finds where a fault was, and its resistance, from a measured record"),
