@@ -282,8 +282,8 @@ class Record:
         begin: float | None = None,
         end: float | None = None,
     ) -> Drawing:
-        """Draws channels (all without names) between two times in s: into a picture, or a page where the path ends with
-        .html; answers the drawing, which a notebook shows. It needs matplotlib, or plotly for a page."""
+        """Draws channels (all without names) between two times in s: into a picture, which needs matplotlib, or a page
+        where the path ends with .html; answers the drawing, which a notebook shows."""
         from . import plot
 
         return plot.drawn(self, names, path, begin, end)
