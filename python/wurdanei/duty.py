@@ -118,7 +118,7 @@ def source(
 
 def fitted(wanted: Envelope, volts: float, slope: float) -> tuple[list[Group], Tangents]:
     """The groups whose answer has the envelope's parameters, and those that it has."""
-    from scipy.optimize import least_squares  # type: ignore[import]
+    from scipy.optimize import least_squares
 
     if wanted.uc <= volts:
         raise CaseError(f"a crest of {wanted.uc:g} V isn't above the recovery voltage, {volts:g} V: nothing swings")

@@ -208,7 +208,7 @@ def hollows_of(misfits: np.ndarray) -> list[int]:
 def solved_from(search: _Search, start: np.ndarray, reach: float) -> tuple[float, np.ndarray]:
     """The least misfit from a start, in %, and the parts of the ranges that have it. It goes by the simplex of Nelder and
     Mead: waves that arrive earlier or later leave a hollow with steep, uneven sides, where slopes lead slowly."""
-    from scipy.optimize import minimize  # type: ignore[import]
+    from scipy.optimize import minimize
 
     simplex = np.vstack([start, start + np.diag(np.where(start + reach < 2, reach, -reach))])
     answer = minimize(

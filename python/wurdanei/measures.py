@@ -109,7 +109,7 @@ def _turn(spectrum: np.ndarray) -> int:
 
 def _apart(curves: Curves, weight: float) -> np.ndarray:
     """The difference of two magnitudes over so many times the mean of their sum; 0 where both are nothing."""
-    case, measured = abs(curves[0]), abs(curves[1])
+    case, measured = np.abs(curves[0]), np.abs(curves[1])
     mean = float(np.mean(case + measured))
     if not mean:
         return np.zeros(len(case))

@@ -21,7 +21,7 @@ import pathlib
 import re
 import sys
 import tempfile
-from typing import TYPE_CHECKING
+from typing import TYPE_CHECKING, Callable
 
 import numpy as np
 
@@ -240,7 +240,7 @@ def main(words: list[str]) -> int:
     return report.PASSES
 
 
-def _quietly(call, *words) -> None:
+def _quietly(call: Callable[..., object], *words: object) -> None:
     """A call whose printed words go to standard error, since standard output is the scan's."""
     own, sys.stdout = sys.stdout, sys.stderr
     try:

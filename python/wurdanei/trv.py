@@ -258,7 +258,8 @@ def zero_of_current(record: Record, amps: Signal, state: str | None) -> Zero:
             f"{amps.name} has fewer than three samples on its way to zero: the last one that carries current is taken",
         )  # fmt: skip
     at = amps.times[places] - amps.times[last]
-    way = np.polynomial.Polynomial.fit(at, amps.values[places], 3 if len(places) > 11 else 2 if len(places) > 5 else 1)
+    degree = 3 if len(places) > 11 else 2 if len(places) > 5 else 1
+    way = np.polynomial.Polynomial.fit(at, amps.values[places], degree)  # type: ignore[no-untyped-call]
     roots = [float(it.real) for it in way.roots() if abs(it.imag) < 1e-12]
     after = [it for it in roots if it > -0.5 * amps.step]
     root = min(after, default=math.inf)
