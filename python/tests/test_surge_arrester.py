@@ -334,7 +334,7 @@ class SwitchingStudy(unittest.TestCase):
         mean, _, greatest = case_peaks(peaks)
         self.assertAlmostEqual(mean / 1.9778, 1, 3)
         self.assertAlmostEqual(greatest / 2.0383, 1, delta=1e-3)
-        self.assertRegex(case.told[-2], "^RA, RB, RC: the arresters are exact")
+        self.assertRegex("\n".join(case.told), "(?m)^RA, RB, RC: the arresters are exact")
 
 
 def surge(kind: str) -> list[tuple[float, float, float]]:

@@ -52,9 +52,9 @@ from .draft import STANDING, Call, CaseError, Contents, Draft, Switch, Written
 from .fields import FieldError
 from .form import Form
 from .inductance import Inductance
-from .surge_arrester import PART, Off
 from .record import Record, computed, distinct, read
 from .samples import whole_values
+from .surge_arrester import PART, Off
 from .write import put
 
 __all__ = [
@@ -113,7 +113,7 @@ class Case(Compound):
         self._head = [*head, draft.written(columns.SECOND, {"IOUT": str(iout), "IPLOT": str(self._every)})]
         self._remark = [line.rstrip() for line in remark.splitlines()]
         draft.dt_ps = step.kept
-        self._steps = draft.steps = (2 * until.kept + step.kept) // (2 * step.kept)
+        draft.steps = self._steps = (2 * until.kept + step.kept) // (2 * step.kept)
         if not 1 <= self._steps <= MOST_STEPS:
             raise CaseError(f"Case: end / dt is {self._steps:,} steps, and has to be from 1 to {MOST_STEPS:,}")
 
@@ -180,10 +180,15 @@ class Case(Compound):
         the node and `U A-0` of the arrester."""
         return dict(self._form().filtered)
 
+    @property
+    def _samples(self) -> int:
+        """How many samples the record of a whole run has."""
+        return self.steps // self.every + 1
+
     def _form(self, plain: bool = False) -> Form:
         """The cards that stand for the case: its plain ones, or those with which it is run."""
         contents = self._draft.contents
-        return form.plain(contents) if plain else form.run(contents, self.steps // self.every + 1)
+        return form.plain(contents) if plain else form.run(contents, self._samples)
 
     # ---- what the record has
 
@@ -211,8 +216,8 @@ class Case(Compound):
 
     def _judge(self, own: Form) -> None:
         self._check_names(own)
-        form.judge(own, self.steps // self.every + 1)
-        self._check_history(own)
+        form.judge(own, self._samples)
+        _check_history(own.contents)
 
     def _check_names(self, own: Form) -> None:
         contents = own.contents
@@ -241,15 +246,6 @@ class Case(Compound):
             for name in asked.names:
                 _known(name, variables, "the control has no variable", asked.card.call)
 
-    def _check_history(self, own: Form) -> None:
-        contents = own.contents
-        history = sum(it.history for it in contents.branches) + sum(it.history for it in contents.extras)
-        if history > MOST_HISTORY:
-            raise CaseError(
-                f"lines and devices would keep {history:,} values of the past, and a case keeps at most "
-                f"{MOST_HISTORY:,}: take a larger time step, shorter lines or delays"
-            )
-
     # ---- text
 
     def text(self, rulers: bool = False, plain: bool = False) -> str:
@@ -258,26 +254,28 @@ class Case(Compound):
         They are those with which it is run; with `plain` those of its plain form, without reactors in place of
         inductances and filters of arresters, which a steady state and a scan want.
         """
-        lines = self._lines(rulers, plain)
-        return "".join(f"{line.text if isinstance(line, Written) else line}\n" for line in lines)
+        return _text_of(self._lines(rulers, plain))
 
     def write(self, path: str | os.PathLike[str], rulers: bool = True, plain: bool = False) -> None:
         """Writes the case into a file; `rulers` and `plain` as of `text`."""
         pathlib.Path(path).write_bytes(self.text(rulers, plain).encode("utf-8"))
-        self._heard = [] if plain else self._told_of_file(f"{os.fspath(path)}")
+        name = os.fspath(path)
+        self._heard, self._unheard = [] if plain else [*self._told_of_channels(name), *self._told_of_cards(name)], None
 
-    def _told_of_file(self, path: str) -> list[str]:
-        """What a reader of the written case has to know: which channels have other names there, and what refuses it."""
+    def _told_of_channels(self, path: str) -> list[str]:
+        """Which channels have other names in a file that was written, or other values."""
         own = self._form()
         renamed = [f"{it.own} is {it.name}" for it in own.channels if it.own != it.name]
         scaled = [f"{it.own} has to be multiplied by {it.factor:.9g}" for it in own.channels if it.factor != 1]
-        found = [f"{path}: its channel {', '.join([*renamed, *scaled])}"] if renamed or scaled else []
+        return [f"{path}: its channel {', '.join([*renamed, *scaled])}"] if renamed or scaled else []
+
+    def _told_of_cards(self, path: str) -> list[str]:
+        """What refuses the cards of a file that was written."""
         instead = (it.instead.branches for it in self._draft.contents.branches if it.kind == "series" and it.instead)
-        if any(it.kind == "reactor" for own in instead for it in own):
-            found.append(
-                f"{path}: phasor and scan refuse its reactors in place of inductances; write(.., plain=True) leaves them out"
-            )
-        return found
+        if not any(it.kind == "reactor" for own in instead for it in own):
+            return []
+        words = "phasor and scan refuse its reactors in place of inductances; write(.., plain=True) leaves them out"
+        return [f"{path}: {words}"]
 
     def _lines(self, rulers: bool = False, plain: bool = False) -> list[Written | str]:
         """The lines of the case: cards with their calls, and what stands between."""
@@ -335,9 +333,14 @@ class Case(Compound):
             note, found = self._recorded(place, timeout)
         if exact:
             note, found = self._computed(timeout)
-            found.path = f"{os.path.join(*place)}.cfg" if place else ""
+        found.path = f"{os.path.join(*place)}.cfg" if place else ""
         if place:
-            self._heard += self._told_of_file(f"{os.path.join(*place)}.cfg")[:1]
+            self._heard += self._told_of_channels(found.path)
+        self._as_asked(found)
+        if not exact and found.names:
+            steps = (f"{name} by {step:g} {unit}" for (name, step), unit in zip(found.steps.items(), found.units))
+            found.told.append(f"values are those of 16 bits: {', '.join(steps)}")
+        found.told += [str(it) for it in self.off(found) if it.recorded_v > (1 + TELLS) * it.on_v]
         self.end_of_run = end_of(note, self.dt)
         if not found.names and not found.state_names:
             self._heard.append("no output is asked for, so the record has no channel")
@@ -356,14 +359,9 @@ class Case(Compound):
             names = [program.path_of(it) for it in (cfg, dat)]
             note = self._answer(["run"], names, (0, 3), (cfg, dat), timeout)
             found = read(*names)
-            self._named(found)
             if place:
                 texts = [self.text().encode(), *(pathlib.Path(it).read_bytes() for it in names)]
                 _save(*place, dict(zip(("case", "cfg", "dat"), texts)))
-        found.path = f"{os.path.join(*place)}.cfg" if place else ""
-        steps = ", ".join(f"{name} by {step:g} {unit}" for (name, step), unit in zip(found.steps.items(), found.units))
-        if steps:
-            found.told.append(f"values are those of 16 bits: {steps}")
         return note, found
 
     def _computed(self, timeout: float | None) -> tuple[str, Record]:
@@ -373,24 +371,18 @@ class Case(Compound):
         names, states = [it.own for it in own.channels], [name for name, _ in own.states]
         values = whole_values(lines, len(names) + len(states), "emtp_judge")
         units = [UNITS.get(name.split(" ")[0], "PU") for name in names]
-        found = computed(names, units, states, values, self.dt * self.every)
-        self._named(found)
-        return note, found
+        return note, computed(names, units, states, values, self.dt * self.every)
 
-    def _named(self, found: Record) -> None:
-        """Gives the channels of a record their names as they were asked for, and takes away what wasn't; tells which
-        arresters lie off their characteristics."""
-        own = self._form()
+    def _as_asked(self, found: Record) -> None:
+        """Gives the channels of a run their names and factors as they were asked for, and takes away states that
+        weren't."""
         analogs = found._configuration.analogs
-        for place, channel in enumerate(own.channels):
+        for place, channel in enumerate(self._form().channels):
             if channel.factor != 1:
                 it = analogs[place]
-                factors = dict(multiplier=it.multiplier * channel.factor, offset=it.offset * channel.factor)
-                analogs[place] = dataclasses.replace(it, **factors)
-        found.names[:] = self.names
-        asked = [name for name, asked in own.states if asked]
-        found.state_names[:] = distinct(asked, set(found.names), [])
-        found.told += [str(it) for it in self.off(found) if it.recorded_v > (1 + TELLS) * it.on_v]
+                multiplier, offset = it.multiplier * channel.factor, it.offset * channel.factor
+                analogs[place] = dataclasses.replace(it, multiplier=multiplier, offset=offset)
+        found.names[:], found.state_names[:] = self.names, self.state_names
 
     def off(self, found: Record, part: float = PART) -> list[Off]:
         """Of each arrester with segments: how many samples of a record of `run` lie off its characteristic by more than
@@ -502,7 +494,7 @@ class Case(Compound):
     ) -> str:
         """What a command prints of the case, which stands between these words; what isn't good is raised."""
         lines = self._lines(plain=plain)
-        self._heard, self._unheard, text = [], None, self.text(plain=plain).encode()
+        self._heard, self._unheard, text = [], None, _text_of(lines).encode()
         with program.memory(text) as case:
             words = [*before, program.path_of(case), *behind]
             ended = program.run(words, files=(case, *files), timeout=timeout)
@@ -522,6 +514,16 @@ class Case(Compound):
         )
 
 
+def _check_history(contents: Contents) -> None:
+    """Lines and devices keep no more of the past than a case has room for."""
+    history = sum(it.history for it in contents.branches) + sum(it.history for it in contents.extras)
+    if history > MOST_HISTORY:
+        raise CaseError(
+            f"lines and devices would keep {history:,} values of the past, and a case keeps at most "
+            f"{MOST_HISTORY:,}: take a larger time step, shorter lines or delays"
+        )
+
+
 def _branch_cards(contents: Contents) -> typing.Iterator[Written | str]:
     """The cards of the branches, with those that make the fields of series branches wide or narrow."""
     wide = False
@@ -531,6 +533,11 @@ def _branch_cards(contents: Contents) -> typing.Iterator[Written | str]:
                 wide = not wide
                 yield f"$VINTAGE, {int(wide)}"
             yield card
+
+
+def _text_of(lines: list[Written | str]) -> str:
+    """The text of the lines of a case."""
+    return "".join(f"{line.text if isinstance(line, Written) else line}\n" for line in lines)
 
 
 def _warned(text: bytes) -> list[str]:

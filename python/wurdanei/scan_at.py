@@ -179,7 +179,7 @@ def _scanned(case: "Case | str", node: str, first: int, last: int, step: int) ->
     with tempfile.TemporaryDirectory() as room:
         path = case if isinstance(case, str) else os.path.join(room, "case.case")
         if not isinstance(case, str):
-            case.write(path, rulers=False)
+            pathlib.Path(path).write_bytes(case.text(plain=True).encode())
         text, told = dead(path, node)
         pathlib.Path(room, "dead.case").write_text(text, encoding="latin-1", newline="")
         try:

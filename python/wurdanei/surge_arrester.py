@@ -344,14 +344,14 @@ class SurgeArresters(Network):
 
     def _offs(self, record: typing.Any, part: float, names: dict[str, str]) -> list[Off]:
         """Of each arrester with segments, as far as the record has what that takes: its samples off the characteristic."""
-        found = []
-        for branch in self._draft.contents.branches:
+        found: list[Off] = []
+        for branch in self._draft.contents.branches if len(record.times) else []:
             if branch.kind != "resistor" or (branch.instead is not None and not branch.filtered):
                 continue
             name = joined(branch.asked_as or branch.ends)
             if {f"U {name}", f"I {name}"} <= set(record.names):
                 u, i = record.channel(f"U {name}"), record.channel(f"I {name}")
-                found.append(off_of(name, u, i, branch.given["points"], part))
+                found.append(off_of(name, u, i, branch.given["points"], part, record.multiplier(f"I {name}")))
             elif branch.filtered in record.names and names.get(branch.filtered) in record.names:
                 u, on = record.channel(names[branch.filtered]), record.channel(branch.filtered)
                 away = np.where(on == 0, np.abs(u), 0.0)
@@ -364,12 +364,11 @@ class SurgeArresters(Network):
         return found
 
 
-def off_of(name: str, u: np.ndarray, i: np.ndarray, points: Points, part: float = PART) -> Off:
+def off_of(name: str, u: np.ndarray, i: np.ndarray, points: Points, part: float, raw: float) -> Off:
     """What of an arrester's voltage (V) and current (A), both of shape (samples,), lies off its characteristic by more than
-    a part of the first point's voltage, the current's 16 bits allowed for."""
+    a part of the first point's voltage, `raw` of the current (A) allowed for, by which its values can be told apart."""
     longer = _longer(points)
     amperes, volts = np.array([0.0, *(it[0] for it in longer)]), np.array([0.0, *(it[1] for it in longer)])
-    raw = float(np.abs(i).max()) / 32767
     size = np.abs(u)
     low = np.interp(np.maximum(np.abs(i) - raw, 0), amperes, volts)
     high = np.interp(np.abs(i) + raw, amperes, volts)
