@@ -6,6 +6,7 @@ Source: IEEE C37.111 of 1991, 1999 and 2013.
 
 from __future__ import annotations
 
+import threading
 import warnings
 from typing import BinaryIO, Iterator
 
@@ -21,6 +22,7 @@ PIECE = 1 << 20  # bytes of text that are read at a time
 BLOCK = 1 << 16  # time stamps at a time, of the binary forms
 PLAIN = b"0123456789,-+.eE \r\n"
 SHORT = 40  # bytes of a field that an error shows
+PARSING = threading.Lock()
 
 
 class Samples:
@@ -395,7 +397,8 @@ def as_kept(values: np.ndarray) -> np.ndarray:
 
 def numbers_of(text: bytes | str, kind: type = np.float64, between: str = " , ") -> np.ndarray | None:
     """The numbers between commas, or what else stands between; None where something else stands there."""
-    with warnings.catch_warnings():
+    # what is done with warnings holds for all threads: two that came to overlap would leave it so
+    with PARSING, warnings.catch_warnings():
         warnings.simplefilter("error", DeprecationWarning)  # of a text that is no list of numbers
         try:
             return np.fromstring(text, kind, sep=between)

@@ -165,7 +165,8 @@ def draw(headings: list[str], columns: list[list[Decimal | str]], path: str) -> 
     """The distribution of each channel's peaks, where matplotlib is there."""
     rows = [[float(it) for it in row] for row in zip(*columns)]
     try:
-        picture.draw(batch_drawing(Summary(peaks=rows, names=headings), os.path.basename(path)), path)
+        summary = Summary(peaks=rows, names=headings, units=[""] * len(headings))
+        picture.draw(batch_drawing(summary, os.path.basename(path)), path)
     except RecordError as fault:
         print(f"emtp study: {fault}", file=sys.stderr)
     else:
