@@ -243,7 +243,7 @@ def of(build: typing.Callable[[float], typing.Any], dt: float, channels: typing.
     The function gives each case the same instants of samples, as by `every=round(1e-6 / dt)`.
     """
     cases = [build(dt / part) for part in STEPS]
-    records = [it.run(early="keep") for it in cases]
+    records = [it.run(early="keep", record=True) for it in cases]  # as `emtp converge` reads them
     ended = [f"at 1/{part} of the step {it.end_of_run}" for part, it in zip(STEPS, cases) if it.end_of_run]
     told = [
         f"at 1/{part} of the step: {it}" for part, own in zip(STEPS, records) for it in own.told if it[:4] == "OFF "
