@@ -55,7 +55,7 @@ class Cases(unittest.TestCase):
         """At the end the capacitance has 100 V (1 - (1 - e^-4)/4), behind a ramp of 4 time constants."""
         report = converge.of(charged, 2e-4)
         peak = next(it for it in report.quantities if (it.channel, it.kind) == ("V A", "peak"))
-        self.assertEqual(peak.values[0], charged(2e-4).run().channel("V A").max())
+        self.assertEqual(peak.values[0], charged(2e-4).run(record=True).channel("V A").max())
         for name, kind in (("I E-A", "RMS"), ("U E-A", "RMS"), ("E-A", "energy")):
             own = next(it for it in report.quantities if (it.channel, it.kind) == (name, kind))
             self.assertAlmostEqual(own.order, 2, delta=0.1)
