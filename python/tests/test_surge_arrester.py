@@ -189,9 +189,10 @@ class Waves(unittest.TestCase):
         case.arrester("P", points=POINTS)
         case.output("P")
         found = case.run()
-        # 660.9375 kV; the record's 16 bits make it 660.95
+        # 660.9375 kV, which the record's 16 bits make 660.95
+        on = "660.94" if program.has_judge() else "660.95"
         self.assertRegex(
-            told(found)[0], "^OFF 4 of the arrester P-0: .* recorded 1000 kV, on the characteristic 660.9[45] kV$"
+            told(found)[0], f"^OFF 4 of the arrester P-0: .* recorded 1000 kV, on the characteristic {on} kV$"
         )
 
     def test_the_exact_arrester_is_right_from_the_first_sample_on(self) -> None:
