@@ -21,9 +21,10 @@ impl Teller for Question {
     }
 }
 
-/// Does what the words after the program's name ask for: behind `--samples` the last word names the file of a case, which is
-/// read and run, and the note of the run is left with all digits of its samples. The status is Done also where the run ended
-/// early, which the note says; BadCard where a card is refused, and Usage where the words don't fit.
+/// Does what the words after the program's name ask for: the last word names the file of a case, which is read and run, and the
+/// note of the run is left with what it is worth, or, behind `--samples`, with all digits of its samples; behind `--count` it isn't
+/// run, and the number of branches that there are to judge is left. The status is Done also where the run ended early, which the
+/// note says; BadCard where a card is refused, and Usage where the words don't fit.
 pub fn assess<C: Cabinet>(alloc: Global, words: &[String], cabinet: &mut C) -> Status
     ensures { Assesses (question_in (texts words.now)) result (C.state cabinet.old) (C.state cabinet.new) }
 {

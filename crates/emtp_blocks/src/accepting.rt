@@ -9,7 +9,7 @@ use crate::block_rows::BlockRange;
 use crate::diagram::BlockDiagram;
 use crate::inputs::{StepValues, input_sum};
 use crate::limits::{limits_in_step, output};
-use crate::next::{Signals, next};
+use crate::next::{Signals, step};
 use emtp_case::{BlockState, Limiter};
 
 /// A block after a step, but for its state, which is large and moves in place.
@@ -50,14 +50,12 @@ fn accept_one(
         solved,
         output: x,
     };
-    match next(block, &diagram.laws[at], &limits, &states[at], signals) {
-        Some(state) => {
-            let same = is_same(states[at].limiter, state.limiter);
-            states[at] = state;
-            Some(Accepted { output: x, same })
-        }
-        None => None,
+    let before = states[at].limiter;
+    if !step(block, &diagram.laws[at], &limits, &mut states[at], signals) {
+        return None;
     }
+    let same = is_same(before, states[at].limiter);
+    Some(Accepted { output: x, same })
 }
 
 /// Writes the output of one block, and answers whether a limiter has moved up to it.

@@ -1,6 +1,6 @@
 //! What is kept of a block after a step.
 
-ghost use Rattle.std.specs.Prelude.{◌≡◌, ◌^◌, ◌*◌, ◌≤◌, ◌<◌, ◌+◌, ◌==◌, ◌&&◌, not, ◌+ℤ◌, ◌-ℤ◌, ◌*ℤ◌, ℕ, ℤ, suc, pos, true, unsigned_abs, length, Option, Some, None, if◌then◌else◌, IfSome};
+ghost use Rattle.std.specs.Prelude.{◌≡◌, ◌^◌, ◌*◌, ◌≤◌, ◌<◌, ◌+◌, ◌==◌, ◌&&◌, not, ◌+ℤ◌, ◌-ℤ◌, ◌*ℤ◌, ℕ, ℤ, suc, pos, true, false, unsigned_abs, length, Option, Some, None, if◌then◌else◌, IfSome};
 ghost use Rattle.std.specs.Ordering.{int_eq};
 ghost use Rattle.emtp_case.specs.declared.control.BlockState.{BlockState};
 ghost use Rattle.emtp_elim.specs.Matrix.{item};
@@ -15,9 +15,9 @@ ghost use Rattle.emtp_blocks.specs.declared.next.TheConstants.{LARGEST_CHAIN};
 use crate::law::BlockLaw;
 use crate::limits::{Limits, limiter_for};
 use crate::moving::{error, link, past_output, unlimited};
-use crate::scaling::product;
+use crate::scaling::pico_product;
 use emtp_case::{Block, BlockState, Limiter};
-use emtp_fix::{PICO, in_range};
+use emtp_fix::in_range;
 
 /// The greatest magnitude of a number of a chain, in 10^-18.
 pub(crate) const LARGEST_CHAIN: u128 = 1_000_000_000_000_000_000_000_000_000_000_000_000;
@@ -41,7 +41,7 @@ fn input(gain: i64, s: i64) -> Option<i64>
         ≡ (if is_within LARGEST_VALUE (near (gain *ℤ s) PICO) then Some (near (gain *ℤ s) PICO) else None) }
     ensures small { IfSome result (λ u. unsigned_abs u ≤ LARGEST_VALUE) }
 {
-    in_range(product(gain, s, PICO))
+    in_range(pico_product(gain, s))
 }
 
 /// E of the powers below the order, and 0 from the order on.
@@ -165,38 +165,43 @@ fn is_in_range(chain: &[i128], order: usize) -> bool
     true
 }
 
-/// What is kept of a block after a step; none where its input or a number of its chain is out of range.
-pub(crate) fn next(
+/// Moves what is kept of a block by one step, in place, and answers whether its input and the numbers of its chain are in
+/// range. Where one isn't, the state is as before.
+#[inline(always)]
+pub(crate) fn step(
     block: &Block,
     law: &BlockLaw,
     limits: &Limits,
-    old: &BlockState,
+    state: &mut BlockState,
     signals: Signals,
-) -> Option<BlockState>
+) -> bool
     requires order { block.now.order ≤ 7 }
     requires gain { unsigned_abs block.now.gain ≤ LARGEST_VALUE }
     requires law { IsLaw law.now }
-    requires old { IsKept old.now }
-    requires signals { AreSignals limits.now old.now.limiter signals }
-    ensures value { (dt : ℤ) (r : BlockState) → IsLawOf dt block.now law.now → HasState block.now.order old.now r
-        → Keeps block.now.order result (next_state dt block.now limits.now r signals.solved signals.sum) }
-    ensures kept { IfSome result IsKept }
+    requires old { IsKept state.old }
+    requires signals { AreSignals limits.now state.old.limiter signals }
+    ensures value { (dt : ℤ) (r : BlockState) → IsLawOf dt block.now law.now → HasState block.now.order state.old r
+        → Keeps block.now.order (if result then Some state.new else None)
+        (next_state dt block.now limits.now r signals.solved signals.sum) }
+    ensures kept { IsKept state.new }
+    ensures same { result ≡ false → state.new ≡ state.old }
 {
     let order = block.order as usize;
     let x = signals.output;
-    let u = input(block.gain, signals.sum)?;
-    let past = past_at_limit(old, order);
-    let z = unlimited(law, old.limiter, past, signals.solved, u);
+    let Some(u) = input(block.gain, signals.sum) else {
+        return false;
+    };
+    let past = past_at_limit(state, order);
+    let z = unlimited(law, state.limiter, past, signals.solved, u);
     let errors = errors(law, order, u, x);
     let clamped = differs(x, z);
     let last = last_error(law, u, x, order, clamped);
-    let chain = replaced(chain(old, &errors, order), order, clamped, last);
+    let chain = replaced(chain(state, &errors, order), order, clamped, last);
     if !is_in_range(&chain, order) {
-        return None;
+        return false;
     }
-    Some(BlockState {
-        limiter: limiter_for(limits, z),
-        errors,
-        chain,
-    })
+    state.limiter = limiter_for(limits, z);
+    state.errors = errors;
+    state.chain = chain;
+    true
 }

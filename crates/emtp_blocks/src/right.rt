@@ -19,9 +19,8 @@ use crate::inputs::outside_sum;
 use crate::law::BlockLaw;
 use crate::limits::{held, limits_in_step};
 use crate::moving::past_output;
-use crate::scaling::product;
+use crate::scaling::pico_product;
 use emtp_case::{Block, BlockState, Limiter};
-use emtp_fix::PICO;
 
 /// The right side of a free block, in nano: what the inputs from outside and the past bring.
 fn free_right(
@@ -43,7 +42,7 @@ fn free_right(
     ensures small { unsigned_abs result ≤ LARGEST_CHAIN }
 {
     let s = outside_sum(places, known, block.inputs.as_slice());
-    product(law.gain, s, PICO) + past_output(state, block.order as usize)
+    pico_product(law.gain, s) + past_output(state, block.order as usize)
 }
 
 /// The right side of a block, in nano.

@@ -64,21 +64,21 @@ abbrev pub names_legend : List ℕ
 names_legend = OUTPUT_FIELDS.now
 
 -- nothing where the line has no fields
-abbrev pub legend : List ℕ → Kind → List ℕ
-legend line read.Tolerance = TOLERANCE_FIELDS.now
-legend line read.FirstRun = FIRST_RUN_FIELDS.now
-legend line read.SecondRun = SECOND_RUN_FIELDS.now
-legend line read.Block = BLOCK_FIELDS.now
-legend line (read.Coefficients order) = COEFFICIENT_FIELDS.now
-legend line read.TacsSource = TACS_SOURCE_FIELDS.now
-legend line read.Extra = extra_legend line
-legend line read.TacsOutput = names_legend
-legend line read.Output = names_legend
-legend line (read.Branch wide) = branch_legend wide (kind_field line)
-legend line (read.Point scale) = point_legend scale
-legend line read.Switch = switch_legend (type_field line)
-legend line read.Source = SOURCE_FIELDS.now
-legend line other = []
+abbrev pub card_legend : List ℕ → Kind → List ℕ
+card_legend line read.Tolerance = TOLERANCE_FIELDS.now
+card_legend line read.FirstRun = FIRST_RUN_FIELDS.now
+card_legend line read.SecondRun = SECOND_RUN_FIELDS.now
+card_legend line read.Block = BLOCK_FIELDS.now
+card_legend line (read.Coefficients order) = COEFFICIENT_FIELDS.now
+card_legend line read.TacsSource = TACS_SOURCE_FIELDS.now
+card_legend line read.Extra = extra_legend line
+card_legend line read.TacsOutput = names_legend
+card_legend line read.Output = names_legend
+card_legend line (read.Branch wide) = branch_legend wide (kind_field line)
+card_legend line (read.Point scale) = point_legend scale
+card_legend line read.Switch = switch_legend (type_field line)
+card_legend line read.Source = SOURCE_FIELDS.now
+card_legend line other = []
 
 -- ---- the name of one field
 
@@ -91,4 +91,4 @@ without_dashes name = take (length name - dash_count name) name
 
 -- the name of the field that the card of a line has in these columns
 abbrev pub field_name : List ℕ → Kind → ℕ → ℕ → List ℕ
-field_name line kind first last = without_dashes (take (last + 1 - first) (drop (first - 1) (legend line kind)))
+field_name line kind first last = without_dashes (take (last + 1 - first) (drop (first - 1) (card_legend line kind)))

@@ -53,19 +53,35 @@ name_length (byte ∷ bytes) =
 abbrev pub name_in : List ℕ → List ℕ
 name_in rest = take (name_length rest) rest
 
+abbrev pub ended_cause : List ℕ → List ℕ
+ended_cause note = item_of (cause_item note) note
+
 -- what the note names stands behind its cause, and may have a blank itself
+abbrev pub ended_name : List ℕ → List ℕ
+ended_name note = name_in (behind_blank (item_rest (cause_item note) true note))
+
 abbrev pub ended_text : List ℕ → List ℕ
-ended_text note =
-    end_text (item_of (cause_item note) note) (step_in note) (name_in (behind_blank (item_rest (cause_item note) true note)))
+ended_text note = end_text (ended_cause note) (step_in note) (ended_name note)
+
+abbrev pub ended_step : List ℕ → Option ℕ
+ended_step note = few_digits 9 (step_in note)
+
+-- of a run, no trial and no steady state, in which a number of the network left its range
+abbrev pub is_range_of_run : List ℕ → Bool
+is_range_of_run note = (ended_item note == 1) && has_step note && bytes_eq (ended_cause note) (codes "RANGE")
 
 -- ---- no steady state
 
 abbrev pub shown_card : List ℕ → List ℕ
 shown_card card = if length card == 0 then [] else map shown_byte card ++ codes "\n"
 
+-- the word of the reason
+abbrev pub unsolved_reason : List ℕ → List ℕ
+unsolved_reason note = item_of 6 note
+
 -- the card, where one is given, and why
 abbrev pub unsolved_case : List ℕ → List ℕ → List ℕ
-unsolved_case note card = shown_card card ++ unsolved_text (item_of 6 note)
+unsolved_case note card = shown_card card ++ unsolved_text (unsolved_reason note)
 
 -- ---- records
 

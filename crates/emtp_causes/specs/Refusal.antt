@@ -3,7 +3,7 @@ use Rattle.std.specs.Prelude.{[], ◌++◌, ◌-◌, ◌==◌, List, None, Optio
 use Rattle.emtp_card.specs.declared.reason.Bad.{Bad}
 use Rattle.emtp_causes.specs.Cause.{cause_text}
 use Rattle.emtp_causes.specs.Kinds.{kind_name}
-use Rattle.emtp_causes.specs.Legend.{legend}
+use Rattle.emtp_causes.specs.Legend.{card_legend}
 use Rattle.emtp_causes.specs.Marked.{mark, shown_line}
 use Rattle.emtp_causes.specs.Sections.{sections_text}
 use Rattle.emtp_walk.specs.declared.kind.Kind.{Kind}
@@ -16,7 +16,7 @@ legend_line legend = if length legend == 0 then [] else legend ++ codes "\n"
 -- the card below the names of its fields, a mark under its column with the cause, and as what it was read
 unfoldable pub refused_card : List ℕ → Kind → Bad → List ℕ
 refused_card line kind bad =
-    legend_line (legend line kind) ++ shown_line line bad.column ++ mark bad.column
+    legend_line (card_legend line kind) ++ shown_line line bad.column ++ mark bad.column
     ++ cause_text bad.line line kind bad.column bad.why
     ++ THIS_CARD.now ++ decimal bad.line ++ IS_READ_AS.now ++ kind_name kind ++ codes ".\n"
 

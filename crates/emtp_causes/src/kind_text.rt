@@ -61,7 +61,12 @@ pub fn put_kinds(
     Ok(())
 }
 
-fn put_kind(out: &mut Vec<u8>, number: usize, there: bool, kind: Kind) -> Result<(), AllocError>
+/// Puts the line of a number, of a line that is there or is due.
+///
+/// # Errors
+///
+/// [`AllocError`] where memory is wanting.
+pub fn put_kind(out: &mut Vec<u8>, number: usize, there: bool, kind: Kind) -> Result<(), AllocError>
     ensures { OnOk result (out.new.items ≡ out.old.items ++ kind_text number there kind) }
 {
     match kind {

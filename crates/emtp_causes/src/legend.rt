@@ -1,7 +1,7 @@
 //! The names of a card's fields over their columns.
 
 ghost use Rattle.std.specs.Prelude.{◌≡◌, ◌≤◌, length, take_while};
-ghost use Rattle.emtp_causes.specs.Legend.{branch_legend, dash_count, extra_legend, field_name, legend, point_legend, switch_legend, without_dashes};
+ghost use Rattle.emtp_causes.specs.Legend.{branch_legend, card_legend, dash_count, extra_legend, field_name, point_legend, switch_legend, without_dashes};
 
 use crate::texts::{
     BLOCK_FIELDS, CHARACTERISTIC_FIELDS, COEFFICIENT_FIELDS, DEVICE_FIELDS, FIRST_RUN_FIELDS,
@@ -14,8 +14,8 @@ use emtp_netcards::{BranchKind, PointScale, SwitchType, branch_kind, switch_type
 use emtp_walk::Kind;
 
 /// The names of the fields of the card that a line is read as; nothing where it has no fields.
-pub(crate) fn legend(line: &[u8], kind: Kind) -> &'static [u8]
-    ensures { result.now ≡ legend line.now kind }
+pub fn card_legend(line: &[u8], kind: Kind) -> &'static [u8]
+    ensures { result.now ≡ card_legend line.now kind }
 {
     match kind {
         Kind::Tolerance => TOLERANCE_FIELDS,
@@ -46,7 +46,7 @@ pub fn field_name(line: &[u8], kind: Kind, first: usize, last: usize) -> &'stati
     requires order { first ≤ last }
     ensures { result.now ≡ field_name line.now kind first last }
 {
-    without_dashes(columns(legend(line, kind), first, last))
+    without_dashes(columns(card_legend(line, kind), first, last))
 }
 
 /// A name that dashes fill up to the width of its field.

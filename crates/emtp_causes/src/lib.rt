@@ -4,7 +4,7 @@
 //! mend it: the card below the names of its fields, a mark under the column with the cause in words, as what kind of card the
 //! line was read, and where the sections before it ended. A line that was meant otherwise (a card of ATP that isn't read here,
 //! `blank` in small letters, a comment without its blank) is told as such. [`put_kinds`] and [`put_section`] write as what lines
-//! are read, by the names of [`kind_name`]; [`field_name`] names a field of a card; [`put_misfit`] writes why words are no
+//! are read, by the names of [`kind_name`]; [`card_legend`] names all fields of a card and [`field_name`] one; [`put_misfit`] writes why words are no
 //! command.
 //!
 //! The crate stands on the lines of `emtp_card`, on the types of cards of `emtp_netcards`, on what `emtp_walk` says that each
@@ -48,10 +48,14 @@ mod slip;
 mod texts;
 
 pub use ends::{put_end, unsolved};
-pub use kind_text::{put_kinds, put_section};
+pub use kind_text::{put_kind, put_kinds, put_section};
 pub use kinds::kind_name;
-pub use legend::field_name;
+pub use legend::{card_legend, field_name};
+pub use marked::put_shown;
 pub use misfit::put_misfit;
-pub use notes::{item_of, number_in, put_differs, put_ended, put_row, put_unsolved};
+pub use notes::{
+    ended_name, ended_step, is_range_of_run, item_of, number_in, put_differs, put_ended, put_row,
+    put_unsolved, unsolved_reason,
+};
 pub use parts::{put_field, put_item};
 pub use refusal::{put_refusal, put_size};

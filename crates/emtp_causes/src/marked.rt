@@ -20,8 +20,12 @@ pub(crate) fn put_line(out: &mut Vec<u8>, line: &[u8], column: u32) -> Result<()
     put(out, b"\n")
 }
 
-/// Puts a text after another, with `?` for each such byte.
-pub(crate) fn put_shown(out: &mut Vec<u8>, text: &[u8]) -> Result<(), AllocError>
+/// Puts a text after another, with `?` for each byte that a terminal may not show as one column.
+///
+/// # Errors
+///
+/// [`AllocError`] where memory is wanting.
+pub fn put_shown(out: &mut Vec<u8>, text: &[u8]) -> Result<(), AllocError>
     ensures { OnOk result (out.new.items ≡ out.old.items ++ map shown_byte text.now) }
 {
     for byte in text {

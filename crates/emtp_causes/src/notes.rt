@@ -2,7 +2,7 @@
 //! refused.
 
 ghost use Rattle.std.specs.Prelude.{◌≡◌, ◌+◌, ◌++◌, ◌≤◌, OnOk, length};
-ghost use Rattle.emtp_causes.specs.Notes.{behind_blank, cause_item, differs_text, ended_item, ended_text, has_no_line, has_step, item_of, line_there, name_length, number_in, place_text, refused_row, row_text, shown_card, step_in, this_line, unsolved_case};
+ghost use Rattle.emtp_causes.specs.Notes.{behind_blank, cause_item, differs_text, ended_cause, ended_item, ended_name, ended_step, ended_text, has_no_line, has_step, is_range_of_run, item_of, line_there, name_length, number_in, place_text, refused_row, row_text, shown_card, step_in, this_line, unsolved_case, unsolved_reason};
 
 use crate::ends::{put_end, unsolved};
 use crate::marked::put_shown;
@@ -41,10 +41,36 @@ pub fn number_in(number: u64, note: &[u8]) -> Option<u64>
 pub fn put_ended(out: &mut Vec<u8>, note: &[u8]) -> Result<(), AllocError>
     ensures { OnOk result (out.new.items ≡ out.old.items ++ ended_text note.now) }
 {
-    let cause = cause_item(note);
-    let rest = behind_blank(item_rest(note, cause));
-    let name = &rest[..name_length(rest)];
-    put_end(out, item_of(cause, note), step_in(note), name)
+    put_end(out, ended_cause(note), step_in(note), ended_name(note))
+}
+
+/// Whether it is the note of a run that ended since a number of the network left its range in a step.
+pub fn is_range_of_run(note: &[u8]) -> bool
+    ensures { result ≡ is_range_of_run note.now }
+{
+    ended_item(note) == 1 && has_step(note) && ended_cause(note) == b"RANGE".as_slice()
+}
+
+/// The cause of an early end.
+fn ended_cause(note: &[u8]) -> &[u8]
+    ensures { result.now ≡ ended_cause note.now }
+{
+    item_of(cause_item(note), note)
+}
+
+/// What the note of an early end names.
+pub fn ended_name(note: &[u8]) -> &[u8]
+    ensures { result.now ≡ ended_name note.now }
+{
+    let rest = behind_blank(item_rest(note, cause_item(note)));
+    &rest[..name_length(rest)]
+}
+
+/// The number of the step of an early end; none of a steady state.
+pub fn ended_step(note: &[u8]) -> Option<u64>
+    ensures { result ≡ ended_step note.now }
+{
+    read_digits(step_in(note), MOST_DIGITS)
 }
 
 /// Which item is the word ENDED: a command, or a trial and its number, may stand in front of it.
@@ -124,7 +150,14 @@ pub fn put_unsolved(out: &mut Vec<u8>, note: &[u8], card: &[u8]) -> Result<(), A
     ensures { OnOk result (out.new.items ≡ out.old.items ++ unsolved_case note.now card.now) }
 {
     put_card(out, card)?;
-    put(out, unsolved(item_of(6, note)))
+    put(out, unsolved(unsolved_reason(note)))
+}
+
+/// The word for why a case has no steady state.
+pub fn unsolved_reason(note: &[u8]) -> &[u8]
+    ensures { result.now ≡ unsolved_reason note.now }
+{
+    item_of(6, note)
 }
 
 /// Puts a card, where there is one.

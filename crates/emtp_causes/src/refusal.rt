@@ -2,12 +2,12 @@
 
 ghost use Rattle.std.specs.Prelude.{◌++◌, ◌≡◌, OnOk};
 ghost use Rattle.emtp_causes.specs.Kinds.{kind_name};
-ghost use Rattle.emtp_causes.specs.Legend.{legend};
+ghost use Rattle.emtp_causes.specs.Legend.{card_legend};
 ghost use Rattle.emtp_causes.specs.Refusal.{legend_line, missing_line, read_text, refusal_text, refused_card, size_text};
 
 use crate::cause::put_cause;
 use crate::kinds::kind_name;
-use crate::legend::legend;
+use crate::legend::card_legend;
 use crate::marked::{put_line, put_mark};
 use crate::sections::put_sections;
 use crate::texts::{CARD_IS_DUE, CASE_ENDS, IS_READ_AS, LONG_CASE, THIS_CARD, WHERE};
@@ -80,9 +80,9 @@ fn put_kind(out: &mut Vec<u8>, kind: Kind) -> Result<(), AllocError>
 
 /// Puts the names of the fields of a line, where it has some.
 fn put_legend(out: &mut Vec<u8>, line: &[u8], kind: Kind) -> Result<(), AllocError>
-    ensures { OnOk result (out.new.items ≡ out.old.items ++ legend_line (legend line.now kind)) }
+    ensures { OnOk result (out.new.items ≡ out.old.items ++ legend_line (card_legend line.now kind)) }
 {
-    put_names(out, legend(line, kind))
+    put_names(out, card_legend(line, kind))
 }
 
 fn put_names(out: &mut Vec<u8>, names: &[u8]) -> Result<(), AllocError>

@@ -269,7 +269,7 @@ pub(crate) const TIED_CURE: &[u8] =
     b". Put the\nsource's impedance between source and switch, or see to it that the closed times of the switches don't overlap.\n";
 
 pub(crate) const STEADY_PIVOT_CURE: &[u8] =
-    b" only reactances or lines meet, or nothing ties it, or the part of the network that it is in, to\nground or to a source. Of reactances, put in series the small resistance that each reactor has; else a large\nresistance to ground, as 1.E6 ohm, does. Look also for a name that is spelt in two ways; docs/phasor.md says more.\n";
+    b" only reactances or lines meet, or nothing ties it, or the part of the network that it is in, to\nground or to a source. Of reactances, put in series the small resistance that each reactor has; else a large\nresistance to ground, as 1.E6 ohm, does. Look also for a name that is spelt in two ways; docs/tools.md says more.\n";
 
 pub(crate) const NOTHING_TIES: &[u8] = b"Nothing ties ";
 
@@ -280,7 +280,7 @@ pub(crate) const PIVOT_CURE: &[u8] =
     b".\nA large resistance to ground, as 1.E6 ohm, does; look also for a name that is spelt in two ways, and for what is\nleft behind an open switch.\n";
 
 pub(crate) const STEADY_RANGE_CURE: &[u8] =
-    b" a number left its range in the steady state: a current above 1E9 A, a matrix entry above 1E5 S, or a\nconductance that is too small beside the susceptance there. Put the small resistance in series that each reactor has,\nor, where only lines meet, a smaller resistance to ground, as 1.E4 ohm; docs/phasor.md says more.\n";
+    b" a number left its range in the steady state: a current above 1E9 A, a matrix entry above 1E5 S, or a\nconductance that is too small beside the susceptance there. Put the small resistance in series that each reactor has,\nor, where only lines meet, a smaller resistance to ground, as 1.E4 ohm; docs/tools.md says more.\n";
 
 pub(crate) const RANGE: &[u8] = b" a number left its range in ";
 

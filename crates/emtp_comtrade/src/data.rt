@@ -51,7 +51,8 @@ pub fn raw_value(value: i64, multiplier: i64) -> i128
 fn raw_value_by(value: i64, multiplier: i64, word: u64) -> i64
     requires positive { pos 0 <ℤ multiplier }
     requires held { unsigned_abs (near value multiplier) ≤ 32767 }
-    ensures { result ≡ near value multiplier }
+    ensures value { result ≡ near value multiplier }
+    ensures small { unsigned_abs result ≤ 32767 }
 {
     let magnitude = raw_magnitude(value.unsigned_abs(), multiplier.unsigned_abs(), word);
     with_sign_of(value, magnitude)
@@ -204,10 +205,10 @@ fn push_raw(text: &mut Text, sheet: &Sheet<'_>, sample: u32, place: usize, analo
     if is_status_at(sheet.case, place) {
         return analog;
     }
-    text.push(b",");
+    text.push_byte(b',');
     let multiplier = multiplier_at(sheet.case, sheet.multipliers, place, analog);
     let value = sheet.samples.value(sample, place);
-    text.push_number(raw_value_by(value, multiplier, sheet.words[analog]));
+    text.push_short(raw_value_by(value, multiplier, sheet.words[analog]));
     analog + 1
 }
 

@@ -1,5 +1,6 @@
 //! A text that waits to be written.
-ghost use Rattle.std.specs.Prelude.{◌≡◌, ◌+◌, ◌≤◌, ◌++◌, [], length};
+ghost use Rattle.std.specs.Prelude.{◌≡◌, ◌+◌, ◌<◌, ◌≤◌, ◌++◌, ◌∷◌, [], decimal, length, unsigned_abs};
+ghost use Rattle.std.specs.Fmt.{signed_decimal};
 ghost use Rattle.emtp_fix.specs.Decimal.{fixed_text};
 
 use arrayvec::ArrayVec;
@@ -37,6 +38,77 @@ pub fn push_number<I: Integer, const ROOM: usize>(text: &mut ArrayVec<u8, ROOM>,
 {
     let mut buffer = Buffer::new();
     push(text, buffer.format(number).as_bytes());
+}
+
+// The digits of a short number go straight behind the text: a buffer of their own and a copy of it cost as much as they do.
+
+/// Puts a digit after a text.
+#[inline(always)]
+fn push_digit<const ROOM: usize>(text: &mut ArrayVec<u8, ROOM>, digit: u32)
+    requires digit { digit < 10 }
+    requires room { length text.old.items + 1 ≤ ROOM }
+    ensures text { text.new.items ≡ text.old.items ++ decimal digit }
+    ensures length { length text.new.items ≡ length text.old.items + 1 }
+{
+    text.push(b'0' + digit as u8);
+}
+
+/// Puts a whole number after a text, which ends with its last digit.
+#[inline(always)]
+fn push_two_digits<const ROOM: usize>(text: &mut ArrayVec<u8, ROOM>, number: u32)
+    requires number { number < 100 }
+    requires room { length text.old.items + 2 ≤ ROOM }
+    ensures text { text.new.items ≡ text.old.items ++ decimal number }
+    ensures length { length text.new.items ≤ length text.old.items + 2 }
+{
+    if number < 10 {
+        return push_digit(text, number);
+    }
+    push_digit(text, number / 10);
+    push_digit(text, number % 10);
+}
+
+#[inline(always)]
+fn push_three_digits<const ROOM: usize>(text: &mut ArrayVec<u8, ROOM>, number: u32)
+    requires number { number < 1000 }
+    requires room { length text.old.items + 3 ≤ ROOM }
+    ensures text { text.new.items ≡ text.old.items ++ decimal number }
+    ensures length { length text.new.items ≤ length text.old.items + 3 }
+{
+    if number < 10 {
+        return push_digit(text, number);
+    }
+    push_two_digits(text, number / 10);
+    push_digit(text, number % 10);
+}
+
+#[inline(always)]
+fn push_four_digits<const ROOM: usize>(text: &mut ArrayVec<u8, ROOM>, number: u32)
+    requires number { number < 10000 }
+    requires room { length text.old.items + 4 ≤ ROOM }
+    ensures text { text.new.items ≡ text.old.items ++ decimal number }
+    ensures length { length text.new.items ≤ length text.old.items + 4 }
+{
+    if number < 10 {
+        return push_digit(text, number);
+    }
+    push_three_digits(text, number / 10);
+    push_digit(text, number % 10);
+}
+
+/// Puts a whole number below 100,000 after a text.
+#[inline(always)]
+fn push_five_digits<const ROOM: usize>(text: &mut ArrayVec<u8, ROOM>, number: u32)
+    requires number { number < 100000 }
+    requires room { length text.old.items + 5 ≤ ROOM }
+    ensures text { text.new.items ≡ text.old.items ++ decimal number }
+    ensures length { length text.new.items ≤ length text.old.items + 5 }
+{
+    if number < 10 {
+        return push_digit(text, number);
+    }
+    push_four_digits(text, number / 10);
+    push_digit(text, number % 10);
 }
 
 /// The front of a text that waits to be written. It takes no memory.
@@ -100,6 +172,32 @@ impl Text {
         ensures length { length self.new ≤ length self.old + NUMBER_ROOM }
     {
         push_number(&mut self.bytes, number);
+    }
+
+    /// Puts a byte after the text.
+    #[inline(always)]
+    pub fn push_byte(&mut self, byte: u8)
+        requires { length self.old + 1 ≤ TEXT_ROOM }
+        ensures text { self.new ≡ self.old ++ byte ∷ [] }
+        ensures length { length self.new ≡ length self.old + 1 }
+    {
+        self.bytes.push(byte);
+    }
+
+    /// Puts a whole number of at most five digits after the text.
+    #[inline(always)]
+    pub fn push_short(&mut self, number: i64)
+        requires number { unsigned_abs number < 100000 }
+        requires room { length self.old + NUMBER_ROOM ≤ TEXT_ROOM }
+        ensures text { self.new ≡ self.old ++ signed_decimal number }
+        ensures length { length self.new ≤ length self.old + NUMBER_ROOM }
+    {
+        if number < 0 {
+            self.push_byte(b'-');
+            push_five_digits(&mut self.bytes, (-number) as u32);
+        } else {
+            push_five_digits(&mut self.bytes, number as u32);
+        }
     }
 
     /// Puts a decimal after the text: a whole number of units of 10^-places.

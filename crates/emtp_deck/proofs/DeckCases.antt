@@ -26,7 +26,7 @@ use Rattle.emtp_deck.proofs.GoodBranches.{branches_taken}
 use Rattle.emtp_deck.proofs.GoodMade.{IsGood, outputs_taken, sources_taken, switches_taken, tacs_outputs_taken}
 use Rattle.emtp_deck.proofs.WholeDeck.{stored_within}
 use Rattle.emtp_deck.specs.ControlFilling.{block_of, control_parts, inputs_of, tacs_source_of}
-use Rattle.emtp_deck.specs.Deck.{case_of, control_made, few_samples, filled, filled_by, made_of_deck, missing_bad, sensible_control, unfinished}
+use Rattle.emtp_deck.specs.Deck.{case_of, control_made, deck_case, deck_case_by, few_samples, made_of_deck, missing_bad, sensible_control, unfinished}
 use Rattle.emtp_deck.specs.Branches.{pending_fault}
 use Rattle.emtp_deck.specs.Made.{Made, all_asked, count_asked}
 use Rattle.emtp_deck.specs.Samples.{has_too_many, samples_bad}
@@ -179,8 +179,8 @@ no_first : (a b : Option Bad) → first_bad a b ≡ None → b ≡ None
 no_first (Some x) b e = absurd (cc)
 no_first None b e = e
 
-filled_at : (line : ℕ) (deck : Deck) (place : Place) (p : Parts) → IsSound deck place → IsWhole deck → HasFewInputsEach (variable_names deck place) deck → filled_by (known_nodes deck place) (variable_names deck place) line deck place ≡ Ok p → IsCase p
-filled_at line deck place p sound whole inputs e =
+deck_case_at : (line : ℕ) (deck : Deck) (place : Place) (p : Parts) → IsSound deck place → IsWhole deck → HasFewInputsEach (variable_names deck place) deck → deck_case_by (known_nodes deck place) (variable_names deck place) line deck place ≡ Ok p → IsCase p
+deck_case_at line deck place p sound whole inputs e =
     let nodes = known_nodes deck place in
     let variables = variable_names deck place in
     let a = then_ok (few_samples nodes variables deck place) (λ few. sensible_control nodes variables deck place >>= (λ sensible. made_of_deck (case_nodes nodes) variables deck >>= (λ m. unless (unfinished line m place) (λ bad. bad) (Ok (case_of deck m))))) p e in
@@ -207,6 +207,6 @@ filled_at line deck place p sound whole inputs e =
     by Sources s i few none m made ended is = absurd (cc)
     by Outputs s i few none m made ended is = absurd (cc)
 
-pub filled_is_case : (line : ℕ) (deck : Deck) (place : Place) (p : Parts) → IsSound deck place → IsWhole deck → HasFewInputsEach (variable_names deck place) deck → filled line deck place ≡ Ok p → IsCase p
-unfolding filled
-filled_is_case line deck place p sound whole inputs e = filled_at line deck place p sound whole inputs e
+pub deck_case_is_case : (line : ℕ) (deck : Deck) (place : Place) (p : Parts) → IsSound deck place → IsWhole deck → HasFewInputsEach (variable_names deck place) deck → deck_case line deck place ≡ Ok p → IsCase p
+unfolding deck_case
+deck_case_is_case line deck place p sound whole inputs e = deck_case_at line deck place p sound whole inputs e

@@ -14,8 +14,8 @@ use Rattle.emtp_deck.proofs.FewNodes.{whole_nodes}
 use Rattle.emtp_walk.specs.Answer.{go_on}
 use Rattle.emtp_walk.specs.held.Answer.{IfBad}
 use Rattle.emtp_sense.specs.ControlSense.{control_bad}
-use Rattle.emtp_deck.specs.Deck.{case_of, filled, made_of_deck, unfinished}
-use Rattle.emtp_deck.specs.held.Filling.{Fills}
+use Rattle.emtp_deck.specs.Deck.{case_of, deck_case, made_of_deck, unfinished}
+use Rattle.emtp_deck.specs.held.Filling.{Makes}
 use Rattle.emtp_deck.specs.Made.{Made, count_asked}
 use Rattle.emtp_sense.specs.Names.{case_nodes, known_nodes, node_names}
 use Rattle.emtp_deck.specs.Samples.{deck_count, has_too_many}
@@ -44,28 +44,28 @@ stored_within deck seen m few h =
     rw run (within (count_asked m.asked) (deck_count (node_names deck) variables deck) 0 (samples_of deck.run) all few)
 
 -- the faults of sense of the control, if it has one
-pub of_control : (line : ℕ) (deck : Deck) (place : Place) (bad : Bad) → has_too_many (known_nodes deck place) (variable_names deck place) deck place ≡ false → control_bad (known_nodes deck place) (variable_names deck place) deck place ≡ Some bad → filled line deck place ≡ Err bad
-unfolding filled
+pub of_control : (line : ℕ) (deck : Deck) (place : Place) (bad : Bad) → has_too_many (known_nodes deck place) (variable_names deck place) deck place ≡ false → control_bad (known_nodes deck place) (variable_names deck place) deck place ≡ Some bad → deck_case line deck place ≡ Err bad
+unfolding deck_case
 of_control line deck place bad few e =
     rw few (ap (λ (b : Option Bad). go_on (λ (sensible : Unit {0}). go_on (λ (m : Made). unless (unfinished line m place) (λ bad. bad) (Ok (case_of deck m))) (made_of_deck (case_nodes (known_nodes deck place)) (variable_names deck place) deck)) (unless b (λ bad. bad) (Ok tt))) e)
 
 -- the faults of the network behind it
 pub of_network : (line : ℕ) (deck : Deck) (place : Place) (made : Result Made Bad) → has_too_many (known_nodes deck place) (variable_names deck place) deck place ≡ false → control_bad (known_nodes deck place) (variable_names deck place) deck place ≡ None
-    → made_of_deck (case_nodes (known_nodes deck place)) (variable_names deck place) deck ≡ made → filled line deck place ≡ go_on (λ (m : Made). unless (unfinished line m place) (λ bad. bad) (Ok (case_of deck m))) made
-unfolding filled
+    → made_of_deck (case_nodes (known_nodes deck place)) (variable_names deck place) deck ≡ made → deck_case line deck place ≡ go_on (λ (m : Made). unless (unfinished line m place) (λ bad. bad) (Ok (case_of deck m))) made
+unfolding deck_case
 of_network line deck place made few none h =
     rw few (ap (λ (b : Option Bad). go_on (λ (sensible : Unit {0}). go_on (λ (m : Made). unless (unfinished line m place) (λ bad. bad) (Ok (case_of deck m))) (made_of_deck (case_nodes (known_nodes deck place)) (variable_names deck place) deck)) (unless b (λ bad. bad) (Ok tt))) none
     ∙ ap (go_on (λ (m : Made). unless (unfinished line m place) (λ bad. bad) (Ok (case_of deck m)))) h)
 
 pub stopped : (line : ℕ) (deck : Deck) (place : Place) (refused : Refused) (left : Made) → has_too_many (known_nodes deck place) (variable_names deck place) deck place ≡ false → control_bad (known_nodes deck place) (variable_names deck place) deck place ≡ None
-    → Fills (Err refused) (made_of_deck (case_nodes (known_nodes deck place)) (variable_names deck place) deck) left → IfBad refused (λ bad. filled line deck place ≡ Err bad)
+    → Makes (Err refused) (made_of_deck (case_nodes (known_nodes deck place)) (variable_names deck place) deck) left → IfBad refused (λ bad. deck_case line deck place ≡ Err bad)
 stopped line deck place (OfBad bad) left few none h = of_network line deck place (Err bad) few none h
 stopped line deck place NoMemory left few none h = tt
 
 pub cut_off : (line : ℕ) (deck : Deck) (place : Place) (bad : Bad) (m : Made) → has_too_many (known_nodes deck place) (variable_names deck place) deck place ≡ false → control_bad (known_nodes deck place) (variable_names deck place) deck place ≡ None
-    → made_of_deck (case_nodes (known_nodes deck place)) (variable_names deck place) deck ≡ Ok m → unfinished line m place ≡ Some bad → filled line deck place ≡ Err bad
+    → made_of_deck (case_nodes (known_nodes deck place)) (variable_names deck place) deck ≡ Ok m → unfinished line m place ≡ Some bad → deck_case line deck place ≡ Err bad
 cut_off line deck place bad m few none h e = of_network line deck place (Ok m) few none h ∙ ap (λ b. unless b (λ bad. bad) (Ok (case_of deck m))) e
 
 pub completed : (line : ℕ) (deck : Deck) (seen : Bool) (m : Made) → has_too_many (known_nodes deck (After seen)) (variable_names deck (After seen)) deck (After seen) ≡ false → control_bad (known_nodes deck (After seen)) (variable_names deck (After seen)) deck (After seen) ≡ None
-    → made_of_deck (case_nodes (known_nodes deck (After seen))) (variable_names deck (After seen)) deck ≡ Ok m → filled line deck (After seen) ≡ Ok (case_of deck m)
+    → made_of_deck (case_nodes (known_nodes deck (After seen))) (variable_names deck (After seen)) deck ≡ Ok m → deck_case line deck (After seen) ≡ Ok (case_of deck m)
 completed line deck seen m few none h = of_network line deck (After seen) (Ok m) few none h

@@ -72,15 +72,15 @@ sensible_control nodes variables deck place = unless (control_bad nodes variable
 
 -- given the names of all nodes and variables: the size of the record, the control, the network with the nodes that a case may
 -- have, and what is missing at the end
-abbrev pub filled_by : List (List ℕ) → List (List ℕ) → ℕ → Deck → Place → Result Parts Bad
-filled_by nodes variables line deck place = do
+abbrev pub deck_case_by : List (List ℕ) → List (List ℕ) → ℕ → Deck → Place → Result Parts Bad
+deck_case_by nodes variables line deck place = do
   few ← few_samples nodes variables deck place
   sensible ← sensible_control nodes variables deck place
   m ← made_of_deck (case_nodes nodes) variables deck
   unless (unfinished line m place) (λ bad. bad) (Ok (case_of deck m))
 
-unfoldable pub filled : ℕ → Deck → Place → Result Parts Bad
-filled line deck place = filled_by (known_nodes deck place) (variable_names deck place) line deck place
+unfoldable pub deck_case : ℕ → Deck → Place → Result Parts Bad
+deck_case line deck place = deck_case_by (known_nodes deck place) (variable_names deck place) line deck place
 
 unfoldable pub deck_of : List (List ℕ) → Result Parts Bad
-deck_of lines = walk 1 empty_deck Begin lines >>= (λ (read : Deck × Place). filled (length lines + 1) read.0 read.1)
+deck_of lines = walk 1 empty_deck Begin lines >>= (λ (read : Deck × Place). deck_case (length lines + 1) read.0 read.1)

@@ -13,7 +13,7 @@ ghost use Rattle.emtp_deck.specs.held.Branches.{NeedsMore, line_count, line_faul
 ghost use Rattle.emtp_deck.specs.Channels.{channel_count};
 ghost use Rattle.emtp_deck.specs.Copies.{numbers_of_card, type_of_kind, values_behind};
 ghost use Rattle.emtp_deck.specs.held.Copies.{AreTakenBy, HasModes, IsTaken, IsTakenBy};
-ghost use Rattle.emtp_deck.specs.held.Filling.{Fills, IsFilling, made_of};
+ghost use Rattle.emtp_deck.specs.held.Filling.{IsFilling, Makes, made_of};
 ghost use Rattle.emtp_deck.specs.Made.{count_asked};
 ghost use Rattle.emtp_sense.specs.held.Naming.{HasEndNodes, HasEntryNodes, HasTrioNodes};
 ghost use Rattle.emtp_deck.specs.held.Sensible.{AreOwnPoints, HasOwnPoints, IsSensibleSingle, IsSensibleTrio};
@@ -449,7 +449,7 @@ fn take_one(filling: &mut Filling, points: &[Point], card: &BranchCard) -> Resul
     requires single { is_phase (Ok (kind_of_values card.now.values)) ≡ false }
     requires numbers { HasNumbers filling.old.draft.parts.run.dt card.now }
     requires points { HasOwnPoints filling.old.draft.parts.run.dt points.now card.now }
-    ensures value { Fills result (take_one points.now (made_of filling.old) card.now) (made_of filling.new) }
+    ensures value { Makes result (take_one points.now (made_of filling.old) card.now) (made_of filling.new) }
     ensures filling { OnOk result (IsFilling filling.new) }
     ensures run { OnOk result (filling.new.draft.parts.run ≡ filling.old.draft.parts.run) }
     ensures nodes { filling.new.nodes.keys ≡ filling.old.nodes.keys }
@@ -507,7 +507,7 @@ fn take_line(
     requires nodes { HasTrioNodes filling.old.nodes.keys zero.now positive.now third.now }
     requires trio { IsTrioEntry filling.old.draft.parts.run zero.now positive.now }
     requires third { HasNumbers filling.old.draft.parts.run.dt third.now }
-    ensures value { Fills result (take_line (made_of filling.old) zero.now positive.now third.now) (made_of filling.new) }
+    ensures value { Makes result (take_line (made_of filling.old) zero.now positive.now third.now) (made_of filling.new) }
     ensures filling { OnOk result (IsFilling filling.new) }
     ensures run { OnOk result (filling.new.draft.parts.run ≡ filling.old.draft.parts.run) }
     ensures nodes { filling.new.nodes.keys ≡ filling.old.nodes.keys }
@@ -556,7 +556,7 @@ fn take_entry(filling: &mut Filling, points: &[Point], entry: &BranchEntry) -> R
     requires filling { IsFilling filling.old }
     requires entry { IsEntry filling.old.draft.parts.run points.now entry.now }
     requires nodes { HasEntryNodes filling.old.nodes.keys entry.now }
-    ensures value { Fills result (take_entry points.now (made_of filling.old) entry.now) (made_of filling.new) }
+    ensures value { Makes result (take_entry points.now (made_of filling.old) entry.now) (made_of filling.new) }
     ensures filling { OnOk result (IsFilling filling.new) }
     ensures run { OnOk result (filling.new.draft.parts.run ≡ filling.old.draft.parts.run) }
     ensures nodes { filling.new.nodes.keys ≡ filling.old.nodes.keys }
@@ -582,7 +582,7 @@ pub(crate) fn take_branches(
     requires filling { IsFilling filling.old }
     requires entries { All (IsEntry filling.old.draft.parts.run points.now) entries.now }
     requires nodes { All (HasEntryNodes filling.old.nodes.keys) entries.now }
-    ensures value { Fills result (take_branches points.now (made_of filling.old) entries.now) (made_of filling.new) }
+    ensures value { Makes result (take_branches points.now (made_of filling.old) entries.now) (made_of filling.new) }
     ensures filling { OnOk result (IsFilling filling.new) }
     ensures run { OnOk result (filling.new.draft.parts.run ≡ filling.old.draft.parts.run) }
 {

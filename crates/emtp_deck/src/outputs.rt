@@ -6,7 +6,7 @@ ghost use Rattle.std.specs.Prelude.{◌≡◌, ◌<◌, ◌≤◌, ◌++◌, ◌
 ghost use Rattle.emtp_case.specs.held.Channel.{IsChannel};
 ghost use Rattle.emtp_case.specs.held.Sizes.{sizes_of};
 ghost use Rattle.emtp_walk.specs.held.Answer.{IsWant};
-ghost use Rattle.emtp_deck.specs.held.Filling.{Fills, IsFilling, made_of};
+ghost use Rattle.emtp_deck.specs.held.Filling.{IsFilling, Makes, made_of};
 ghost use Rattle.emtp_deck.specs.Made.{count_asked};
 ghost use Rattle.emtp_deck.specs.Outputs.{channel_of, name_fault, node_channels, take_all_nodes, take_known_name, take_names, take_output, take_outputs, take_tacs_outputs, with_channels};
 
@@ -86,7 +86,7 @@ fn take_known_name(
     name: &Name,
 ) -> Result<(), Refused>
     requires filling { IsFilling filling.old }
-    ensures value { Fills result (take_known_name named line (made_of filling.old) column name.now) (made_of filling.new) }
+    ensures value { Makes result (take_known_name named line (made_of filling.old) column name.now) (made_of filling.new) }
     ensures filling { OnOk result (IsFilling filling.new) }
 {
     let channel = channel_of(filling, named, name);
@@ -108,7 +108,7 @@ fn take_names(
 ) -> Result<(), Refused>
     requires filling { IsFilling filling.old }
     requires few { length names.now ≤ 13 }
-    ensures value { Fills result (take_names named line (made_of filling.old) 3 names.now) (made_of filling.new) }
+    ensures value { Makes result (take_names named line (made_of filling.old) 3 names.now) (made_of filling.new) }
     ensures filling { OnOk result (IsFilling filling.new) }
 {
     let mut column = 3;
@@ -140,7 +140,7 @@ fn ask_nodes(outputs: &mut Items<Channel>, nodes: u32) -> Result<(), Refused>
 #[tactic(auto, unfolding(crate::specs::Outputs::take_all_nodes))]
 fn take_all_nodes(filling: &mut Filling, line: u32) -> Result<(), Refused>
     requires filling { IsFilling filling.old }
-    ensures value { Fills result (take_all_nodes line (made_of filling.old)) (made_of filling.new) }
+    ensures value { Makes result (take_all_nodes line (made_of filling.old)) (made_of filling.new) }
     ensures filling { OnOk result (IsFilling filling.new) }
 {
     let nodes = filling.draft.parts.nodes.len();
@@ -152,7 +152,7 @@ fn take_all_nodes(filling: &mut Filling, line: u32) -> Result<(), Refused>
 
 fn take_output(filling: &mut Filling, entry: &OutputEntry) -> Result<(), Refused>
     requires filling { IsFilling filling.old }
-    ensures value { Fills result (take_output entry.now.line (made_of filling.old) entry.now.card) (made_of filling.new) }
+    ensures value { Makes result (take_output entry.now.line (made_of filling.old) entry.now.card) (made_of filling.new) }
     ensures filling { OnOk result (IsFilling filling.new) }
 {
     match &entry.card {
@@ -164,7 +164,7 @@ fn take_output(filling: &mut Filling, entry: &OutputEntry) -> Result<(), Refused
 /// Takes all output cards, up to the first that has a fault.
 pub(crate) fn take_outputs(filling: &mut Filling, entries: &[OutputEntry]) -> Result<(), Refused>
     requires filling { IsFilling filling.old }
-    ensures value { Fills result (take_outputs (made_of filling.old) entries.now) (made_of filling.new) }
+    ensures value { Makes result (take_outputs (made_of filling.old) entries.now) (made_of filling.new) }
     ensures filling { OnOk result (IsFilling filling.new) }
 {
     for entry in entries {
@@ -182,7 +182,7 @@ pub(crate) fn take_tacs_outputs(
     entries: &[TacsOutputEntry],
 ) -> Result<(), Refused>
     requires filling { IsFilling filling.old }
-    ensures value { Fills result (take_tacs_outputs (made_of filling.old) entries.now) (made_of filling.new) }
+    ensures value { Makes result (take_tacs_outputs (made_of filling.old) entries.now) (made_of filling.new) }
     ensures filling { OnOk result (IsFilling filling.new) }
 {
     for entry in entries {

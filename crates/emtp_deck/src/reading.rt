@@ -9,8 +9,8 @@ ghost use Rattle.emtp_case.specs.held.Sizes.{sizes_of};
 ghost use Rattle.emtp_deck.specs.held.Accepted.{IsAccepted};
 ghost use Rattle.emtp_walk.specs.held.Answer.{IfBad, IsWant};
 ghost use Rattle.emtp_deck.specs.held.ControlSensible.{IsSensibleWhole};
-ghost use Rattle.emtp_deck.specs.Deck.{case_of, control_made, deck_of, filled, is_ended, made_of_deck, unfinished};
-ghost use Rattle.emtp_deck.specs.held.Filling.{AreThere, Fills, IsFilling, made_of};
+ghost use Rattle.emtp_deck.specs.Deck.{case_of, control_made, deck_case, deck_of, is_ended, made_of_deck, unfinished};
+ghost use Rattle.emtp_deck.specs.held.Filling.{AreThere, IsFilling, Makes, made_of};
 ghost use Rattle.emtp_deck.specs.Made.{all_asked, count_asked};
 ghost use Rattle.emtp_deck.specs.held.Made.{named_made};
 ghost use Rattle.emtp_walk.specs.held.Sound.{IsSound, IsWhole};
@@ -33,12 +33,12 @@ use emtp_walk::{Deck, Place, walk};
 use std::alloc::Global;
 
 /// Takes the cards of all sections, in the order of their lines.
-fn fill(filling: &mut Filling, deck: &Deck) -> Result<(), Refused>
+fn take_sections(filling: &mut Filling, deck: &Deck) -> Result<(), Refused>
     requires control { made_of filling.old ≡ control_made filling.old.nodes.keys filling.old.variables.keys deck.now }
     requires filling { IsFilling filling.old }
     requires whole { IsWhole deck.now }
     requires nodes { HasNodes filling.old.nodes.keys deck.now }
-    ensures value { Fills result (made_of_deck filling.old.nodes.keys filling.old.variables.keys deck.now) (made_of filling.new) }
+    ensures value { Makes result (made_of_deck filling.old.nodes.keys filling.old.variables.keys deck.now) (made_of filling.new) }
     ensures filling { OnOk result (IsFilling filling.new) }
 {
     take_tacs_outputs(filling, deck.control.outputs.as_slice())?;
@@ -80,7 +80,7 @@ fn add_asked(draft: &mut Draft, asked: &Asked) -> Result<(), Refused>
 }
 
 /// Adds what is added to a whole network: the sources of the control, and the channels.
-fn finish(filling: &mut Filling, deck: &Deck) -> Result<(), Refused>
+fn add_sources_and_channels(filling: &mut Filling, deck: &Deck) -> Result<(), Refused>
     requires filling { IsFilling filling.old }
     requires stored { count_asked filling.old.asked * samples_of filling.old.draft.parts.run ≤ MOST_STORED_VALUES }
     requires control { IsSensibleWhole filling.old deck.now }
@@ -109,7 +109,7 @@ fn unfinished(filling: &Filling, place: &Place, line: u32) -> Bad
 }
 
 /// Makes the case of cards whose control has no fault of sense, from one that has its nodes alone.
-fn complete(
+fn take_deck(
     alloc: Global,
     filling: &mut Filling,
     deck: &Deck,
@@ -122,14 +122,14 @@ fn complete(
     requires nodes { filling.old.nodes.keys ≡ case_nodes (known_nodes deck.now place.now) }
     requires variables { filling.old.variables.keys ≡ variable_names deck.now place.now }
     requires accepted { IsAccepted deck.now place.now }
-    ensures ok { OnOk result (filled line deck.now place.now ≡ Ok filling.new.draft.parts) }
+    ensures ok { OnOk result (deck_case line deck.now place.now ≡ Ok filling.new.draft.parts) }
     ensures each { OnOk result (DefinesEach filling.new.draft.parts) }
-    ensures bad { IfErr result (λ refused. IfBad refused (λ bad. filled line deck.now place.now ≡ Err bad)) }
+    ensures bad { IfErr result (λ refused. IfBad refused (λ bad. deck_case line deck.now place.now ≡ Err bad)) }
 {
     add_control(alloc, filling, deck)?;
-    match fill(filling, deck) {
+    match take_sections(filling, deck) {
         Ok(()) => match place {
-            Place::After(_) => finish(filling, deck),
+            Place::After(_) => add_sources_and_channels(filling, deck),
             _ => Err(Refused::Bad(unfinished(filling, place, line))),
         },
         Err(refused) => Err(refused),
@@ -137,7 +137,7 @@ fn complete(
 }
 
 /// The case of cards whose control has no fault of sense.
-fn complete_case(
+fn sensible_case(
     alloc: Global,
     deck: &Deck,
     place: &Place,
@@ -149,11 +149,11 @@ fn complete_case(
     requires nodes { names.nodes.keys ≡ case_nodes (known_nodes deck.now place.now) }
     requires variables { names.variables.keys ≡ variable_names deck.now place.now }
     requires accepted { IsAccepted deck.now place.now }
-    ensures ok { IfOk result (λ case. filled line deck.now place.now ≡ Ok case.parts) }
-    ensures bad { IfErr result (λ refused. IfBad refused (λ bad. filled line deck.now place.now ≡ Err bad)) }
+    ensures ok { IfOk result (λ case. deck_case line deck.now place.now ≡ Ok case.parts) }
+    ensures bad { IfErr result (λ refused. IfBad refused (λ bad. deck_case line deck.now place.now ≡ Err bad)) }
 {
     let mut filling = Filling::new(alloc, deck.run, names)?;
-    match complete(alloc, &mut filling, deck, place, line) {
+    match take_deck(alloc, &mut filling, deck, place, line) {
         Ok(()) => Ok(filling.into_case()),
         Err(refused) => {
             drop(filling);
@@ -163,12 +163,12 @@ fn complete_case(
 }
 
 /// The case of the cards that were read, or the first fault of sense.
-#[tactic(auto, unfolding(crate::specs::Deck::filled))]
-fn filled(alloc: Global, deck: &Deck, place: &Place, line: u32) -> Result<Case, Refused>
+#[tactic(auto, unfolding(crate::specs::Deck::deck_case))]
+fn deck_case(alloc: Global, deck: &Deck, place: &Place, line: u32) -> Result<Case, Refused>
     requires sound { IsSound deck.now place.now }
     requires whole { IsWhole deck.now }
-    ensures ok { IfOk result (λ case. filled line deck.now place.now ≡ Ok case.parts) }
-    ensures bad { IfErr result (λ refused. IfBad refused (λ bad. filled line deck.now place.now ≡ Err bad)) }
+    ensures ok { IfOk result (λ case. deck_case line deck.now place.now ≡ Ok case.parts) }
+    ensures bad { IfErr result (λ refused. IfBad refused (λ bad. deck_case line deck.now place.now ≡ Err bad)) }
 {
     let mut names = KnownNames::new(alloc, deck, place)?;
     if has_too_many(&names, deck, place) {
@@ -180,7 +180,7 @@ fn filled(alloc: Global, deck: &Deck, place: &Place, line: u32) -> Result<Case, 
         return Err(Refused::Bad(bad));
     }
     names.keep_case_nodes();
-    complete_case(alloc, deck, place, line, names)
+    sensible_case(alloc, deck, place, line, names)
 }
 
 /// The case that the lines give, or the one fault that decides.
@@ -191,7 +191,7 @@ pub fn read(alloc: Global, cards: &Cards<'_>) -> Result<Case, Refused>
 {
     match walk(alloc, cards) {
         Ok((deck, place)) => {
-            let case = filled(alloc, &deck, &place, cards.len() as u32 + 1);
+            let case = deck_case(alloc, &deck, &place, cards.len() as u32 + 1);
             drop(deck);
             case
         }

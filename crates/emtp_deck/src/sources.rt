@@ -3,7 +3,7 @@
 ghost use Rattle.emtp_case.specs.declared.limit.TheConstants.{MOST_SOURCES, MOST_VARIABLES};
 ghost use Rattle.std.specs.Prelude.{◌≡◌, ◌<◌, ◌≤◌, All, Some, false, length, IfErr, OnOk};
 ghost use Rattle.emtp_walk.specs.held.Answer.{IsWant};
-ghost use Rattle.emtp_deck.specs.held.Filling.{Fills, IsFilling, made_of};
+ghost use Rattle.emtp_deck.specs.held.Filling.{IsFilling, Makes, made_of};
 ghost use Rattle.emtp_deck.specs.Sources.{driven_shape, driver_fault, is_second, node_fault, source_at, source_fault, take_source, take_sources, with_source};
 ghost use Rattle.emtp_netcards.specs.held.SourceCard.{HasSourceCardNumbers};
 
@@ -60,7 +60,7 @@ fn source_fault(filling: &Filling, card: &SourceCard, node: Option<u32>) -> Opti
 fn take_source(filling: &mut Filling, card: &SourceCard) -> Result<(), Refused>
     requires filling { IsFilling filling.old }
     requires card { HasSourceCardNumbers card.now }
-    ensures value { Fills result (take_source (made_of filling.old) card.now) (made_of filling.new) }
+    ensures value { Makes result (take_source (made_of filling.old) card.now) (made_of filling.new) }
     ensures filling { OnOk result (IsFilling filling.new) }
 {
     let node = find_node(&filling.nodes, &card.name);
@@ -124,7 +124,7 @@ fn add_source(filling: &mut Filling, card: &SourceCard, node: u32) -> Result<(),
 pub(crate) fn take_sources(filling: &mut Filling, cards: &[SourceCard]) -> Result<(), Refused>
     requires filling { IsFilling filling.old }
     requires cards { All HasSourceCardNumbers cards.now }
-    ensures value { Fills result (take_sources (made_of filling.old) cards.now) (made_of filling.new) }
+    ensures value { Makes result (take_sources (made_of filling.old) cards.now) (made_of filling.new) }
     ensures filling { OnOk result (IsFilling filling.new) }
 {
     for card in cards {

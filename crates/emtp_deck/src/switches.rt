@@ -4,7 +4,7 @@ ghost use Rattle.emtp_case.specs.declared.limit.TheConstants.{MOST_CHANNELS, MOS
 ghost use Rattle.std.specs.Prelude.{◌≡◌, ◌+◌, ◌<◌, ◌≤◌, All, length, IfErr, OnOk};
 ghost use Rattle.emtp_case.specs.held.Range.{AreEnds};
 ghost use Rattle.emtp_walk.specs.held.Answer.{IsWant};
-ghost use Rattle.emtp_deck.specs.held.Filling.{Fills, IsFilling, made_of};
+ghost use Rattle.emtp_deck.specs.held.Filling.{IsFilling, Makes, made_of};
 ghost use Rattle.emtp_deck.specs.Made.{count_asked};
 ghost use Rattle.emtp_sense.specs.Names.{node_number};
 ghost use Rattle.emtp_deck.specs.Channels.{switch_channel_count};
@@ -81,7 +81,7 @@ fn take_switch(filling: &mut Filling, card: &SwitchCard) -> Result<(), Refused>
     requires filling { IsFilling filling.old }
     requires card { HasSwitchNumbers card.now }
     requires nodes { HasSwitchNodes filling.old.nodes.keys card.now }
-    ensures value { Fills result (take_switch (made_of filling.old) card.now) (made_of filling.new) }
+    ensures value { Makes result (take_switch (made_of filling.old) card.now) (made_of filling.new) }
     ensures filling { OnOk result (IsFilling filling.new) }
     ensures nodes { filling.new.nodes.keys ≡ filling.old.nodes.keys }
 {
@@ -122,7 +122,7 @@ pub(crate) fn take_switches(filling: &mut Filling, cards: &[SwitchCard]) -> Resu
     requires filling { IsFilling filling.old }
     requires cards { All HasSwitchNumbers cards.now }
     requires nodes { All (HasSwitchNodes filling.old.nodes.keys) cards.now }
-    ensures value { Fills result (take_switches (made_of filling.old) cards.now) (made_of filling.new) }
+    ensures value { Makes result (take_switches (made_of filling.old) cards.now) (made_of filling.new) }
     ensures filling { OnOk result (IsFilling filling.new) }
 {
     for card in cards {

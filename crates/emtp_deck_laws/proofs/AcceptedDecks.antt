@@ -4,9 +4,9 @@ use Rattle.emtp_card.specs.declared.reason.Bad.{Bad}
 use Rattle.emtp_case.specs.held.Case.{IsCase}
 use Rattle.emtp_case.specs.declared.case.Parts.{Parts}
 use Rattle.emtp_deck.proofs.CaseDrafts.{HasFewInputs}
-use Rattle.emtp_deck.proofs.DeckCases.{HasFewInputsEach, filled_is_case}
+use Rattle.emtp_deck.proofs.DeckCases.{HasFewInputsEach, deck_case_is_case}
 use Rattle.emtp_deck.specs.ControlFilling.{inputs_of}
-use Rattle.emtp_deck.specs.Deck.{deck_of, filled}
+use Rattle.emtp_deck.specs.Deck.{deck_case, deck_of}
 use Rattle.emtp_sense.specs.Variables.{variable_names}
 use Rattle.emtp_walk.proofs.SoundWalks.{HasFive, HasFiveEach, walk_keeps}
 use Rattle.emtp_walk.proofs.Walking.{whole_of}
@@ -40,10 +40,10 @@ few_each variables deck five = record {
   extras = every HasFive (HasFewInputs variables) deck.control.extras (few_of variables) five.extras;
 }
 
-read_is_case : (lines : List (List ℕ)) (walked : Result (Deck × Place) Bad) (p : Parts) → walk 1 empty_deck Begin lines ≡ walked → (walked >>= (λ (read : Deck × Place). filled (length lines + 1) read.0 read.1)) ≡ Ok p → IsCase p
+read_is_case : (lines : List (List ℕ)) (walked : Result (Deck × Place) Bad) (p : Parts) → walk 1 empty_deck Begin lines ≡ walked → (walked >>= (λ (read : Deck × Place). deck_case (length lines + 1) read.0 read.1)) ≡ Ok p → IsCase p
 read_is_case lines (Ok read) p w e =
     let kept = walk_keeps lines read.0 read.1 w in
-    filled_is_case (length lines + 1) read.0 read.1 p kept.0 (whole_of read.0 read.1 kept.0) (few_each (variable_names read.0 read.1) read.0 kept.1) e
+    deck_case_is_case (length lines + 1) read.0 read.1 p kept.0 (whole_of read.0 read.1 kept.0) (few_each (variable_names read.0 read.1) read.0 kept.1) e
 read_is_case lines (Err bad) p w e = absurd (cc)
 
 pub deck_is_case : (lines : List (List ℕ)) (p : Parts) → deck_of lines ≡ Ok p → IsCase p

@@ -14,7 +14,7 @@ use Rattle.emtp_case.specs.declared.limit.TheConstants.{MOST_NODES}
 use Rattle.emtp_deck.proofs.Asking.{control_is, deck_asks, no_fault}
 use Rattle.emtp_deck_laws.specs.NamesApart.{HasNamesApart}
 use Rattle.emtp_listing.specs.Law.{AreApart}
-use Rattle.emtp_deck.specs.Deck.{case_of, deck_of, few_samples, filled, made_of_deck, sensible_control, unfinished}
+use Rattle.emtp_deck.specs.Deck.{case_of, deck_case, deck_of, few_samples, made_of_deck, sensible_control, unfinished}
 use Rattle.emtp_netcards.specs.declared.source_card.SourceCard.{SourceCard}
 use Rattle.emtp_netcards.specs.declared.switch_card.SwitchCard.{SwitchCard}
 use Rattle.emtp_sense.specs.Names.{case_nodes, known_nodes, node_names, with_ends, with_entry_names, with_name, with_pending_nodes, with_switch_names}
@@ -170,9 +170,9 @@ variables_apart deck place =
 
 -- ---- the case
 
-filled_apart : (line : ℕ) (deck : Deck) (place : Place) (p : Parts) → filled line deck place ≡ Ok p → HasNamesApart p
-unfolding filled
-filled_apart line deck place p e =
+deck_case_apart : (line : ℕ) (deck : Deck) (place : Place) (p : Parts) → deck_case line deck place ≡ Ok p → HasNamesApart p
+unfolding deck_case
+deck_case_apart line deck place p e =
     let nodes = known_nodes deck place in
     let variables = variable_names deck place in
     let a = then_ok (few_samples nodes variables deck place) (λ few. sensible_control nodes variables deck place >>= (λ sensible. made_of_deck (case_nodes nodes) variables deck >>= (λ m. unless (unfinished line m place) (λ bad. bad) (Ok (case_of deck m))))) p e in
@@ -188,8 +188,8 @@ filled_apart line deck place p e =
       vars = subst AreApart (sym v) (variables_apart deck place);
     })
 
-read_apart : (lines : List (List ℕ)) (walked : Result (Deck × Place) Bad) (p : Parts) → (walked >>= (λ (read : Deck × Place). filled (length lines + 1) read.0 read.1)) ≡ Ok p → HasNamesApart p
-read_apart lines (Ok read) p e = filled_apart (length lines + 1) read.0 read.1 p e
+read_apart : (lines : List (List ℕ)) (walked : Result (Deck × Place) Bad) (p : Parts) → (walked >>= (λ (read : Deck × Place). deck_case (length lines + 1) read.0 read.1)) ≡ Ok p → HasNamesApart p
+read_apart lines (Ok read) p e = deck_case_apart (length lines + 1) read.0 read.1 p e
 read_apart lines (Err bad) p e = absurd (cc)
 
 pub deck_apart : (lines : List (List ℕ)) (p : Parts) → deck_of lines ≡ Ok p → HasNamesApart p

@@ -8,7 +8,7 @@ use Rattle.emtp_card.specs.declared.reason.Bad.{Bad}
 use Rattle.emtp_card.specs.declared.reason.Why.TheVariants.{MissingSection, TooManySamples}
 use Rattle.emtp_case.specs.declared.case.Parts.{Parts}
 use Rattle.emtp_deck.specs.Branches.{card_fault, first_fault, pending_fault, second_fault, take_branches}
-use Rattle.emtp_deck.specs.Deck.{case_of, control_made, deck_of, filled, is_ended, made_of_deck, missing_bad, unfinished}
+use Rattle.emtp_deck.specs.Deck.{case_of, control_made, deck_case, deck_of, is_ended, made_of_deck, missing_bad, unfinished}
 use Rattle.emtp_deck.specs.Made.{Made}
 use Rattle.emtp_deck.specs.Outputs.{take_outputs}
 use Rattle.emtp_deck.specs.Samples.{has_too_many, samples_bad}
@@ -100,8 +100,8 @@ judged_before : {A B : Type 0} (b : Option Bad) (f : A → Result B Bad) (r : Re
 judged_before (Some bad) f r = refl
 judged_before None f r = refl
 
-pub deck_refused : (lines : ℕ) (deck : Deck) (place : Place) → filled (lines + 1) deck place ≡ unless (first_refusal (judged_cards lines deck place)) (λ bad. bad) (Ok (case_of deck (made_of_all (case_nodes (known_nodes deck place)) (variable_names deck place) deck)))
-unfolding filled
+pub deck_refused : (lines : ℕ) (deck : Deck) (place : Place) → deck_case (lines + 1) deck place ≡ unless (first_refusal (judged_cards lines deck place)) (λ bad. bad) (Ok (case_of deck (made_of_all (case_nodes (known_nodes deck place)) (variable_names deck place) deck)))
+unfolding deck_case
 deck_refused lines deck place =
     let nodes = known_nodes deck place in
     let variables = variable_names deck place in
@@ -124,7 +124,7 @@ pub lines_refused : (lines : List (List ℕ)) (deck : Deck) (place : Place) → 
     → deck_of lines ≡ unless (first_refusal (judged_cards (length lines) deck place)) (λ bad. bad) (Ok (case_of deck (made_of_all (case_nodes (known_nodes deck place)) (variable_names deck place) deck)))
 unfolding deck_of
 lines_refused lines deck place e =
-    ap (go_on (λ (read : Deck × Place). filled (length lines + 1) read.0 read.1)) e ∙ deck_refused (length lines) deck place
+    ap (go_on (λ (read : Deck × Place). deck_case (length lines + 1) read.0 read.1)) e ∙ deck_refused (length lines) deck place
 
 pub refused : {A : Type 0} (found : Option Bad) (x : A) (bad : Bad) → unless found (λ bad. bad) (Ok x) ≡ Err bad → found ≡ Some bad
 refused (Some b) x bad e = let same : b ≡ bad = cc in ap Some same

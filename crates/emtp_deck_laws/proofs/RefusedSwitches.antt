@@ -11,7 +11,7 @@ use Rattle.emtp_card.specs.declared.reason.Bad.{Bad}
 use Rattle.emtp_card.specs.declared.reason.Why.{Why}
 use Rattle.emtp_card.specs.declared.reason.Why.TheVariants.{BadName}
 use Rattle.emtp_case.specs.declared.switch.SwitchKind.TheVariants.{Measuring}
-use Rattle.emtp_deck.specs.Deck.{deck_of, filled}
+use Rattle.emtp_deck.specs.Deck.{deck_case, deck_of}
 use Rattle.emtp_netcards.specs.Fields.{asked_field, distinct, ends_field, is_same_name, needed}
 use Rattle.emtp_netcards.specs.Reading.{◌>>=◌, both, card_by, in_column, lesser_fault}
 use Rattle.emtp_netcards.specs.SwitchCard.{fields_of, is_measuring, kind_of, switch_card, time_kind, times_of, type_field, valve_of, word_field}
@@ -83,7 +83,7 @@ first_refused lines bad e =
 
 pub deck_refused : (lines : List (List ℕ)) (bad : Bad) → walk 1 empty_deck Begin lines ≡ Err bad → deck_of lines ≡ Err bad
 unfolding deck_of
-deck_refused lines bad e = ap (go_on (λ (read : Deck × Place). filled (length lines + 1) read.0 read.1)) e
+deck_refused lines bad e = ap (go_on (λ (read : Deck × Place). deck_case (length lines + 1) read.0 read.1)) e
 
 -- ---- the fields of a switch card
 

@@ -17,7 +17,7 @@ use Rattle.emtp_case.specs.declared.switch.Times.{Times}
 use Rattle.emtp_deck.proofs.Asking.{no_fault}
 use Rattle.emtp_deck.specs.Channels.{channels_of, status_of}
 use Rattle.emtp_deck.specs.ControlFilling.{measuring, switch_place, tacs_source_of}
-use Rattle.emtp_deck.specs.Deck.{case_of, deck_of, filled}
+use Rattle.emtp_deck.specs.Deck.{case_of, deck_case, deck_of}
 use Rattle.emtp_deck.specs.Made.{Made}
 use Rattle.emtp_deck.specs.Sources.{with_source}
 use Rattle.emtp_deck.specs.Switches.{controlled_kind, switch_at, with_switch}
@@ -286,7 +286,7 @@ record IsMadeOf (lines : List (List ℕ)) (p : Parts) : Type 0 where
 made_of_lines : (lines : List (List ℕ)) (p : Parts) → deck_of lines ≡ Ok p → IsMadeOf lines p
 unfolding deck_of
 made_of_lines lines p e =
-    let r = then_ok (walk 1 empty_deck Begin lines) (λ (read : Deck × Place). filled (length lines + 1) read.0 read.1) p e in
+    let r = then_ok (walk 1 empty_deck Begin lines) (λ (read : Deck × Place). deck_case (length lines + 1) read.0 read.1) p e in
     record {
       read = r.0;
       walked = r.1;

@@ -1,7 +1,7 @@
 -- A walk that is refused goes no further.
 use Rattle.std.proofs.Common.{◌≡◌, ap, ℕ, ◌+◌, List, [], ◌∷◌, ◌++◌, length, Ok, Err}
 use Rattle.emtp_card.specs.declared.reason.Bad.{Bad}
-use Rattle.emtp_deck.specs.Deck.{deck_of, filled}
+use Rattle.emtp_deck.specs.Deck.{deck_case, deck_of}
 use Rattle.emtp_walk.specs.Answer.{go_on}
 use Rattle.emtp_walk.specs.LineRead.{Read}
 use Rattle.emtp_walk.specs.Walk.{advance, empty_deck, walk}
@@ -23,4 +23,4 @@ ends_there number deck place (line ∷ front) behind bad e =
 pub front_decides : (front behind : List (List ℕ)) (bad : Bad) → walk 1 empty_deck Begin front ≡ Err bad → deck_of (front ++ behind) ≡ Err bad
 unfolding deck_of
 front_decides front behind bad e =
-    ap (go_on (λ (read : Deck × Place). filled (length (front ++ behind) + 1) read.0 read.1)) (ends_there 1 empty_deck Begin front behind bad e)
+    ap (go_on (λ (read : Deck × Place). deck_case (length (front ++ behind) + 1) read.0 read.1)) (ends_there 1 empty_deck Begin front behind bad e)

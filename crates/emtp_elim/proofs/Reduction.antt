@@ -11,10 +11,9 @@ use Rattle.emtp_elim.specs.held.Finished.{AreAllFinished}
 use Rattle.emtp_elim.specs.held.Substitution.{partial_right, AreReduced}
 use Rattle.emtp_elim.proofs.Stages.{right_start, right_later}
 
--- the first n right sides are reduced, the others are as given
+-- the first n right sides are reduced
 pub record AreReducedUpTo (done : Matrix) (given : List ℤ) (n : ℕ) (right : List ℤ) : Type 0 where
   pub small : (h : ℕ) → h < n → unsigned_abs (item right h) ≤ LARGEST_VALUE
-  pub rest : (h : ℕ) → n ≤ h → item right h ≡ item given h
   pub reduced : (rows : Matrix) → AreAllFinished rows done → AreReduced rows given n right
 
 -- a right side on its way is that of the stage
@@ -30,20 +29,16 @@ partial_is rows done given right i all inside same was (suc k) low =
     ) (sym (right_later rows given k i low (omega arith)))
 
 pub reduced_more : (done : Matrix) (given right : List ℤ) (i : ℕ) (v : ℤ) → AreReducedUpTo done given i right → i < length done → length given ≡ length done
-    → length right ≡ length given → v ≡ partial_right (item right i) (row_of done i) right i
-    → ((k : ℕ) → k ≤ i → unsigned_abs (partial_right (item right i) (row_of done i) right k) ≤ LARGEST_VALUE)
+    → length right ≡ length given → v ≡ partial_right (item given i) (row_of done i) right i
+    → ((k : ℕ) → k ≤ i → unsigned_abs (partial_right (item given i) (row_of done i) right k) ≤ LARGEST_VALUE)
     → AreReducedUpTo done given (i + 1) (slice_set right i v)
-reduced_more done given right i v was inside same same_right e within =
-    let start = was.rest i (omega arith) in
+reduced_more done given right i v was inside same same_right v_is small =
     let in_right : i < length right = omega arith in
-    let v_is : v ≡ partial_right (item given i) (row_of done i) right i = rw start at e in
-    let small : (k : ℕ) → k ≤ i → unsigned_abs (partial_right (item given i) (row_of done i) right k) ≤ LARGEST_VALUE = λ k low. rw start at (within k low) in
     record {
       small = λ h low. elim (cases_eq h i) [
         | inl here ↦ rw (here, get_or-set_same, v_is) (small i (omega arith))
         | inr other ↦ rw get_or-set_other (was.small h (omega arith))
       ];
-      rest = λ h low. let other : h ≢ i = omega arith in rw get_or-set_other (was.rest h (omega arith));
       reduced = λ rows all.
           let old = was.reduced rows all in
           let is_stage = partial_is rows done given right i all inside same old in
@@ -60,12 +55,11 @@ reduced_more done given right i v was inside same same_right e within =
     }
 
 pub right_fault : (done : Matrix) (given right : List ℤ) (i k : ℕ) → AreReducedUpTo done given i right → i < length done → length given ≡ length done
-    → k ≤ i → LARGEST_VALUE < unsigned_abs (partial_right (item right i) (row_of done i) right k)
+    → k ≤ i → LARGEST_VALUE < unsigned_abs (partial_right (item given i) (row_of done i) right k)
     → (rows : Matrix) → AreAllFinished rows done → IsRightFault rows given i
 right_fault done given right i k was inside same low out rows all =
     let old = was.reduced rows all in
-    let start = was.rest i (omega arith) in
-    let large = rw (start, partial_is rows done given right i all inside same old k low) at out in
+    let large = rw (partial_is rows done given right i all inside same old k low) at out in
     record {
       within = omega (arith, all.all);
       earlier = old.in_range;

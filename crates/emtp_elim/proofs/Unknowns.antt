@@ -1,12 +1,13 @@
 -- The unknowns of a triangular system, from the last row back.
 use Rattle.emtp_fix.specs.declared.limit.TheConstants.{LARGEST_VALUE}
-use Rattle.std.proofs.Common.{◌≡◌, ℕ, zero, suc, ◌+◌, ◌-◌, ◌*◌, ◌^◌, ◌<◌, ◌≤◌, ℤ, pos, ◌-ℤ◌, ◌*ℤ◌, unsigned_abs, List, [], ◌∷◌, length, drop, slice_set, length-set, to_z, of_z, refl, ap, sym, ◌∙◌, inl, inr, arith}
+use Rattle.std.proofs.Common.{◌≡◌, ◌≢◌, ℕ, zero, suc, ◌+◌, ◌-◌, ◌*◌, ◌^◌, ◌<◌, ◌≤◌, ℤ, pos, ◌-ℤ◌, ◌*ℤ◌, unsigned_abs, List, [], ◌∷◌, length, drop, slice_set, length-set, to_z, of_z, refl, ap, sym, ◌∙◌, inl, inr, arith}
 use mir.Syntax.{w128}
 use Rattle.std.proofs.lemmas.List.{get_or-drop, get_or-set_same, get_or-set_other, get_or_past, drop_more, drop-set-lt, drop_all}
-use Rattle.std.proofs.lemmas.Bool.{cases_eq}
+use Rattle.std.proofs.lemmas.Bool.{cases_eq, cases_lt}
 use Rattle.emtp_fix.specs.Rounding.{near}
 use Rattle.emtp_fix.proofs.Wide.{through}
 use Rattle.emtp_elim.specs.Matrix.{Matrix, item, row_of, entry, products}
+use Rattle.emtp_elim.specs.held.Matrix.{AreWithin}
 use Rattle.emtp_elim.specs.Elimination.{unknown, last_unknowns}
 use Rattle.emtp_elim.specs.held.Stored.{dense_row, IsStoredRow}
 use Rattle.emtp_elim.specs.held.Substitution.{IsLastFault}
@@ -93,3 +94,21 @@ found_fault rows right x n k v was n_is inside same v_next large =
           rw same_h (was.small h (omega arith));
       out = rw here large;
     }
+
+-- and the places of the others still have their right sides
+pub record AreFoundInPlace (rows : Matrix) (right : List ℤ) (k : ℕ) (x : List ℤ) : Type 0 where
+  pub found : AreFound rows right k x
+  pub rest : (h : ℕ) → h < k → item x h ≡ item right h
+
+pub in_place_small : (rows : Matrix) (right x : List ℤ) (k : ℕ) → AreFoundInPlace rows right k x → AreWithin LARGEST_VALUE right → AreWithin LARGEST_VALUE x
+in_place_small rows right x k was small = λ h. elim (cases_lt h k) [
+  | inl before ↦ rw (was.rest h before) (small h)
+  | inr there ↦ was.found.small h there
+]
+
+pub in_place_more : (rows : Matrix) (right x : List ℤ) (n k : ℕ) (v : ℤ) → AreFoundInPlace rows right n x → n ≡ k + 1 → AreFound rows right k (slice_set x k v)
+    → AreFoundInPlace rows right k (slice_set x k v)
+in_place_more rows right x n k v was n_is found = record {
+  found = found;
+  rest = λ h low. let other : h ≢ k = omega arith in rw get_or-set_other (was.rest h (omega arith));
+}

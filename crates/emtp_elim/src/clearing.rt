@@ -6,9 +6,9 @@ ghost use Rattle.emtp_elim.specs.Matrix.{item};
 ghost use Rattle.emtp_elim.specs.held.Clearing.{IsClearedRow, LeavesRangeAt};
 ghost use Rattle.emtp_elim.specs.held.Row.{numbers, IsRow};
 
-use crate::arithmetic::{less, ratio};
+use crate::arithmetic::{less_by_word, ratio};
 use crate::row::FinishedRow;
-use emtp_fix::{LARGEST_ENTRY, LARGEST_RATIO};
+use emtp_fix::{LARGEST_ENTRY, LARGEST_RATIO, ratio_word};
 
 /// Clears column `k` from a row by finished row `k`, and puts the ratio of the two in its place. False where the ratio
 /// or an entry leaves its range. A row that is clear there already needs no call.
@@ -25,9 +25,10 @@ pub fn clear_column(work: &mut [i128], above: FinishedRow<'_>, k: usize) -> bool
     if m.unsigned_abs() > LARGEST_RATIO {
         return false;
     }
+    let word = ratio_word(m as i64);
     for e in above.pivot + 1..above.last {
         let column = columns[e] as usize;
-        let entry = less(work[column], m, i128::from(values[e]));
+        let entry = less_by_word(work[column], m, word, i128::from(values[e]));
         if entry.unsigned_abs() > LARGEST_ENTRY {
             return false;
         }

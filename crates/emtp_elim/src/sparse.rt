@@ -128,8 +128,8 @@ impl SparseRows {
         ensures fault { IfErr result (λ fault. SolvesAs self.now.rows rhs.old (Err (PlainFault.Solve fault))) }
         ensures row { IfErr result (λ fault. fault.row < self.now.size) }
     {
-        reduce_right(self, rhs)?;
-        substitute_back(self, rhs, x)
+        reduce_right(self, rhs, x)?;
+        substitute_back(self, x)
     }
 
     /// Finishes the next row of the matrix, and keeps it. After a refusal the rows are as before.

@@ -1,5 +1,5 @@
 -- What is told after a run that isn't whole, by its status, its note and its words, and by the file that the note speaks of.
-use Rattle.std.specs.Prelude.{◌≡◌, ◌-◌, ◌==◌, ◌||◌, ◌∷◌, [], Bool, false, List, Option, Some, None, Result, Ok, Err, IfOk, IsTrue, codes, if◌then◌else◌, nat_le, ℕ}
+use Rattle.std.specs.Prelude.{◌≡◌, ◌++◌, ◌-◌, ◌==◌, ◌||◌, ◌∷◌, [], Bool, false, true, List, Option, Some, None, Result, Ok, Err, IfOk, IsTrue, codes, if◌then◌else◌, nat_le, ℕ}
 use Rattle.std.specs.Str.{bytes_eq}
 use Rattle.std.specs.declared.alloc.Global.{Global}
 use Rattle.std.specs.declared.vec.Vec.{Vec}
@@ -7,8 +7,8 @@ use Rattle.emtp_batch.specs.Table.{is_skipped}
 use Rattle.emtp_batch.specs.declared.table.TheConstants.{MAX_ROWS}
 use Rattle.emtp_card.specs.Lines.{lines_of}
 use Rattle.emtp_causes.specs.Misfit.{misfit_text}
-use Rattle.emtp_causes.specs.Notes.{differs_text, ended_text, item_of, number_in, row_text, unsolved_case}
-use Rattle.emtp_inspect.specs.Showing.{unread_status}
+use Rattle.emtp_causes.specs.Notes.{differs_text, ended_text, is_range_of_run, item_of, number_in, row_text, unsolved_case}
+use Rattle.emtp_inspect.specs.CaseAgain.{case_in, frequency_text, growing_in}
 use Rattle.emtp_inspect.specs.Telling.{told_of}
 use Rattle.emtp_inspect.specs.declared.after_run.TheConstants.{CUT_SHORT, NO_MEMORY, UNREAD}
 use Rattle.emtp_inspect.specs.declared.telling.Told.{Told}
@@ -16,11 +16,13 @@ use Rattle.emtp_inspect.specs.declared.telling.Told.TheVariants.{Answer, Refusal
 use Rattle.emtp_inspect.specs.declared.words.Wanted.TheVariants.{Cause}
 use Rattle.emtp_io.specs.Cabinet.{CabinetState}
 use Rattle.emtp_io.specs.declared.whole.ReadEnd.{ReadEnd}
+use Rattle.emtp_io.specs.declared.whole.ReadEnd.TheVariants.{Failed, NoMemory as Wanting}
 use Rattle.emtp_run.specs.Command.{record_file, text_file}
 use Rattle.emtp_run.specs.Inputs.{Input, content}
 use Rattle.emtp_run.specs.Outcome.{summarised}
 use Rattle.emtp_run.specs.Words.{is_name}
 use Rattle.emtp_run.specs.declared.status.Status.{Status}
+use Rattle.emtp_run.specs.declared.status.Status.TheVariants.{NoMemory, ReadFault}
 use Rattle.emtp_run.specs.held.Inputs.{ReadsInputs}
 use Rattle.emtp_run.specs.held.Outcome.{EndsAfterReading}
 
@@ -60,10 +62,15 @@ shown_name (first ∷ rest) = if first == 45 then rest else first ∷ rest
 abbrev pub again : Input → Option Input
 again file = if is_name file.name then Some file else None
 
--- the case whose card is refused, the file of a record that differs, or the table
+-- of a run that ended since a number of the network left its range, the case
+abbrev pub case_of_range : List ℕ → List (List ℕ) → Option Input
+case_of_range note words = if is_range_of_run note then again (text_file (second words)) else None
+
+-- the case whose card is refused or whose run left its range, the file of a record that differs, or the table
 abbrev pub file_again : List ℕ → List ℕ → List (List ℕ) → Option Input
 file_again status note words =
     if bytes_eq status (codes "2") || bytes_eq status (codes "7") then again (text_file (second words))
+    else if bytes_eq status (codes "3") then case_of_range note words
     else if bytes_eq status (codes "8") then again (record_file (differing note words))
     else if bytes_eq status (codes "9") then again (text_file (third words))
     else None
@@ -127,22 +134,40 @@ mending_text bytes = text_of (told_of Cause bytes)
 abbrev pub row_in : List ℕ → List (List ℕ) → List ℕ
 row_in note lines = row_text note (line_in (number_in 4 note) lines) (is_full (number_in 4 note) lines)
 
+-- what an early end means, behind the branch of its case that makes a current grow
+unfoldable pub ended_again : List ℕ → List ℕ → List ℕ
+ended_again note bytes = growing_in note (case_in bytes) ++ ended_text note
+
+-- why a case has no steady state, and of one without a frequency whether its control has a cosine
+unfoldable pub unsolved_again : List ℕ → List ℕ → List ℕ
+unsolved_again note bytes = unsolved_case note (card_in note (lines_of bytes)) ++ frequency_text note bytes
+
 -- by the bytes of the file that the note speaks of
 unfoldable pub told_again : List ℕ → List ℕ → List (List ℕ) → List ℕ → List ℕ
 told_again status note words bytes =
     if bytes_eq status (codes "2") then mending_text bytes
-    else if bytes_eq status (codes "7") then unsolved_case note (card_in note (lines_of bytes))
+    else if bytes_eq status (codes "3") then ended_again note bytes
+    else if bytes_eq status (codes "7") then unsolved_again note bytes
     else if bytes_eq status (codes "8") then differs_text note (differing note words) (line_in (number_in 4 note) (lines_of bytes))
     else row_in note (lines_of bytes)
 
 -- ---- how a call ends that tells it
+
+-- the case of an early end that couldn't be read leaves what is told without it
+abbrev pub EndsFailed : Bool → List ℕ → List ℕ → List (List ℕ) → Status → CabinetState → CabinetState → Type 0
+EndsFailed true status note words end old new = EndsAfterReading end (summarised (told_alone status note words)) old new
+EndsFailed false status note words end old new = (end ≡ ReadFault) × (new ≡ old)
+
+abbrev pub EndsUnread : ReadEnd → List ℕ → List ℕ → List (List ℕ) → Status → CabinetState → CabinetState → Type 0
+EndsUnread Failed status note words end old new = EndsFailed (bytes_eq status (codes "3")) status note words end old new
+EndsUnread Wanting status note words end old new = (end ≡ NoMemory) × (new ≡ old)
 
 -- what comes after the reading of the file, by its bytes or by why it couldn't be read
 abbrev pub RetellsOf : List ℕ → List ℕ → List (List ℕ) → Result (Vec ℕ Global) ReadEnd → Status → CabinetState → CabinetState
     → Type 0
 RetellsOf status note words (Ok bytes) end old new =
     EndsAfterReading end (summarised (told_again status note words bytes.items)) old new
-RetellsOf status note words (Err why) end old new = (end ≡ unread_status why) × (new ≡ old)
+RetellsOf status note words (Err why) end old new = EndsUnread why status note words end old new
 
 -- a file is read, and then what a status means is told by it
 pub record Retells (file : Input) (status note : List ℕ) (words : List (List ℕ)) (end : Status) (old new : CabinetState) : Type 0 where

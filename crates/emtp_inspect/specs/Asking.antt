@@ -6,18 +6,20 @@ use Rattle.emtp_causes.specs.Misfit.{misfit_text}
 use Rattle.emtp_causes.specs.Parts.{field_line, item_line, number_or_one}
 use Rattle.emtp_inspect.specs.declared.words.PastWords.{PastWords}
 use Rattle.emtp_inspect.specs.declared.words.Wanted.{Wanted}
-use Rattle.emtp_inspect.specs.declared.words.Wanted.TheVariants.{Cause, Kinds, Listing, WarningCount}
+use Rattle.emtp_inspect.specs.declared.words.Wanted.TheVariants.{Cause, Fields, Kinds, Listing, WarningCount}
 use Rattle.emtp_run.specs.Words.{is_name, texts}
 
 abbrev pub named : Wanted → List ℕ → Option (Wanted × List ℕ)
 named wanted word = if is_name word then Some (wanted, word) else None
 
--- the word before the name asks how many warnings there are, as what each line is read, or why a card is refused
+-- the word before the name asks how many warnings there are, as what each line is read, why a card is refused, or what fields
+-- the lines have
 abbrev pub counted : List ℕ → List ℕ → Option (Wanted × List ℕ)
 counted first word =
     if bytes_eq first (codes "--count") then named WarningCount word
     else if bytes_eq first (codes "--kinds") then named Kinds word
     else if bytes_eq first (codes "--why") then named Cause word
+    else if bytes_eq first (codes "--fields") then named Fields word
     else None
 
 -- one word names a file

@@ -7,5 +7,7 @@ pub mod Telling
 -- and what the words ask for, and how a call ends that tells it
 pub mod Asking
 pub mod Showing
+pub mod Growing
+pub mod CaseAgain
 pub mod AfterRun
 pub mod Inspecting

@@ -8,13 +8,15 @@ use Rattle.emtp_causes.specs.KindText.{kinds_text, section_text}
 use Rattle.emtp_causes.specs.Kinds.{kind_name}
 use Rattle.emtp_causes.specs.Refusal.{refusal_text, size_text}
 use Rattle.emtp_deck.specs.Deck.{deck_of}
+use Rattle.emtp_fields.specs.Lines.{all_fields}
+use Rattle.emtp_fields.specs.Refused.{refused_field}
 use Rattle.emtp_inspect.specs.ChannelCards.{channels_text}
 use Rattle.emtp_inspect.specs.CopyCards.{copies_text}
 use Rattle.emtp_inspect.specs.RunCards.{run_text}
 use Rattle.emtp_inspect.specs.declared.telling.Told.{Told}
 use Rattle.emtp_inspect.specs.declared.telling.Told.TheVariants.{Answer, Refusal}
 use Rattle.emtp_inspect.specs.declared.words.Wanted.{Wanted}
-use Rattle.emtp_inspect.specs.declared.words.Wanted.TheVariants.{Cause, Kinds, Listing, WarningCount}
+use Rattle.emtp_inspect.specs.declared.words.Wanted.TheVariants.{Cause, Fields, Kinds, Listing, WarningCount}
 use Rattle.emtp_listing.specs.Lines.{lines_text}
 use Rattle.emtp_listing.specs.Listing.{listing}
 use Rattle.emtp_run.specs.Note.{card_note}
@@ -87,11 +89,21 @@ abbrev pub cause_of : List LineReading → List (List ℕ) → Result Parts Bad 
 cause_of readings lines (Ok case) = []
 cause_of readings lines (Err bad) = refusal_text readings lines bad
 
+-- behind the fields of the lines what is warned of; or where the refusal points, its note, and what helps to mend the card
+abbrev pub behind_fields : List LineReading → List (List ℕ) → Result Parts Bad → List ℕ
+behind_fields readings lines (Ok case) = warnings_text readings lines (warnings readings lines case)
+behind_fields readings lines (Err bad) =
+    refused_field readings lines bad ++ card_note bad ++ refusal_text readings lines bad
+
+abbrev pub fields_told : List LineReading → List (List ℕ) → Result Parts Bad → List ℕ
+fields_told readings lines case = all_fields 0 readings lines ++ behind_fields readings lines case
+
 abbrev pub told_of_lines : Wanted → List (List ℕ) → Told
 told_of_lines Listing lines = told_case listing_text (line_readings lines) lines (deck_of lines)
 told_of_lines WarningCount lines = told_case count_text (line_readings lines) lines (deck_of lines)
 told_of_lines Kinds lines = Answer (kinds_text (length lines) 1 (line_readings lines))
 told_of_lines Cause lines = Answer (cause_of (line_readings lines) lines (deck_of lines))
+told_of_lines Fields lines = Answer (fields_told (line_readings lines) lines (deck_of lines))
 
 -- of too many lines or bytes none are read
 abbrev pub told_unread : Wanted → Bad → Told

@@ -4,22 +4,25 @@ ghost use Rattle.emtp_batch.specs.Table.{is_skipped};
 ghost use Rattle.emtp_batch.specs.declared.table.TheConstants.{MAX_ROWS};
 ghost use Rattle.emtp_card.specs.Lines.{is_blank, lines_of};
 ghost use Rattle.emtp_causes.specs.Notes.{differs_text, number_in};
-ghost use Rattle.emtp_inspect.specs.AfterRun.{Retells, TellsAfter, again, behind_row, card_in, mending_text, differing, file_again, fourth, is_full, line_at, line_in, room_left, row_in, second, shown_name, text_of, third, told_again, told_alone};
+ghost use Rattle.emtp_inspect.specs.AfterRun.{EndsFailed, EndsUnread, Retells, TellsAfter, again, behind_row, card_in, case_of_range, ended_again, mending_text, differing, file_again, fourth, is_full, line_at, line_in, room_left, row_in, second, shown_name, text_of, third, told_again, told_alone, unsolved_again};
 ghost use Rattle.emtp_run.specs.Command.{record_file};
 ghost use Rattle.emtp_run.specs.Words.{texts};
 ghost use Rattle.emtp_run.specs.held.Inputs.{named_input};
 ghost use Rattle.emtp_run.specs.held.Outcome.{EndsAfterReading};
 ghost use Rattle.emtp_run.specs.Outcome.{summarised};
 ghost use Rattle.std.specs.List.{list_all};
-ghost use Rattle.std.specs.Prelude.{◌≡◌, ◌++◌, IfOk, OnOk, option_map};
+ghost use Rattle.std.specs.Prelude.{◌≡◌, ◌++◌, IfOk, OnOk, codes, option_map};
+ghost use Rattle.std.specs.Str.{bytes_eq};
 
-use crate::showing::unread_status;
+use crate::case_again::{put_frequency, put_growing_in};
 use crate::telling::{Told, tell};
 use crate::words::Wanted;
 use emtp_batch::MAX_ROWS;
 use emtp_card::next_line;
-use emtp_causes::{item_of, number_in, put_differs, put_ended, put_misfit, put_row, put_unsolved};
-use emtp_io::Cabinet;
+use emtp_causes::{
+    is_range_of_run, item_of, number_in, put_differs, put_ended, put_misfit, put_row, put_unsolved,
+};
+use emtp_io::{Cabinet, ReadEnd};
 use emtp_run::{InputFile, Status, is_name, leave_summary, read_input, text_file};
 use emtp_text::put;
 use std::alloc::{AllocError, Global};
@@ -65,7 +68,40 @@ fn tell_again<C: Cabinet>(
 {
     match read_input(alloc, file, cabinet) {
         Ok(bytes) => leave_again(alloc, status, note, words, &bytes, cabinet),
-        Err(end) => unread_status(end),
+        Err(end) => leave_unread(alloc, end, status, note, words, cabinet),
+    }
+}
+
+/// Leaves what is told where a file couldn't be read: of an early end, without it.
+fn leave_unread<C: Cabinet>(
+    alloc: Global,
+    end: ReadEnd,
+    status: &str,
+    note: &[u8],
+    words: &[String],
+    cabinet: &mut C,
+) -> Status
+    ensures { EndsUnread end status.now note.now (texts words.now) result (C.state cabinet.old) (C.state cabinet.new) }
+{
+    match end {
+        ReadEnd::Failed => leave_failed(alloc, status, note, words, cabinet),
+        ReadEnd::NoMemory => Status::NoMemory,
+    }
+}
+
+fn leave_failed<C: Cabinet>(
+    alloc: Global,
+    status: &str,
+    note: &[u8],
+    words: &[String],
+    cabinet: &mut C,
+) -> Status
+    ensures { EndsFailed (bytes_eq status.now (codes "3")) status.now note.now (texts words.now) result
+        (C.state cabinet.old) (C.state cabinet.new) }
+{
+    match status {
+        "3" => tell_alone(alloc, status, note, words, cabinet),
+        _ => Status::ReadFault,
     }
 }
 
@@ -105,16 +141,28 @@ fn tell_alone<C: Cabinet>(
 
 // ---- the file that is read again
 
-/// The case whose card is refused, the file of a record that differs, or the table; none where the status speaks of none, or
-/// where its word is no name.
+/// The case whose card is refused or whose run left its range, the file of a record that differs, or the table; none where the
+/// status speaks of none, or where its word is no name.
 fn file_again<'a>(status: &str, note: &[u8], words: &'a [String]) -> Option<InputFile<'a>>
     ensures { option_map named_input result ≡ file_again status.now note.now (texts words.entry.now) }
 {
     match status {
         "2" | "7" => again(text_file(second(words))),
+        "3" => case_of_range(note, words),
         "8" => again(record_file(differing(note, words))),
         "9" => again(text_file(third(words))),
         _ => None,
+    }
+}
+
+/// The case of a run that ended since a number of the network left its range; none of another end.
+fn case_of_range<'a>(note: &[u8], words: &'a [String]) -> Option<InputFile<'a>>
+    ensures { option_map named_input result ≡ case_of_range note.now (texts words.entry.now) }
+{
+    if is_range_of_run(note) {
+        again(text_file(second(words)))
+    } else {
+        None
     }
 }
 
@@ -223,7 +271,8 @@ fn told_again(
     let mut text = Vec::new(alloc);
     match status {
         "2" => put_cause(alloc, &mut text, bytes)?,
-        "7" => put_unsolved(&mut text, note, card_in(note, bytes))?,
+        "3" => put_ended_again(alloc, &mut text, note, bytes)?,
+        "7" => put_unsolved_again(alloc, &mut text, note, bytes)?,
         "8" => put_differing(&mut text, note, words, bytes)?,
         _ => put_refused(&mut text, note, bytes)?,
     }
@@ -246,6 +295,34 @@ fn text_of(told: &Told) -> &[u8]
         Told::Answer(text) => text.as_slice(),
         Told::Refusal(text) => text.as_slice(),
     }
+}
+
+/// Puts what an early end means, behind what its case says of it.
+#[tactic(auto, unfolding(crate::specs::AfterRun::ended_again))]
+fn put_ended_again(
+    alloc: Global,
+    out: &mut Vec<u8>,
+    note: &[u8],
+    bytes: &[u8],
+) -> Result<(), AllocError>
+    ensures { OnOk result (out.new.items ≡ out.old.items ++ ended_again note.now bytes.now) }
+{
+    put_growing_in(alloc, out, note, bytes)?;
+    put_ended(out, note)
+}
+
+/// Puts why a case has no steady state, and what it says of that itself.
+#[tactic(auto, unfolding(crate::specs::AfterRun::unsolved_again))]
+fn put_unsolved_again(
+    alloc: Global,
+    out: &mut Vec<u8>,
+    note: &[u8],
+    bytes: &[u8],
+) -> Result<(), AllocError>
+    ensures { OnOk result (out.new.items ≡ out.old.items ++ unsolved_again note.now bytes.now) }
+{
+    put_unsolved(out, note, card_in(note, bytes))?;
+    put_frequency(alloc, out, note, bytes)
 }
 
 fn put_differing(

@@ -93,7 +93,7 @@ pub fn show<T: Teller, C: Cabinet>(alloc: Global, teller: &T, name: &str, cabine
 }
 
 /// How it ends where a file wasn't read.
-pub(crate) fn unread_status(end: ReadEnd) -> Status
+fn unread_status(end: ReadEnd) -> Status
     ensures { result ≡ unread_status end }
 {
     match end {

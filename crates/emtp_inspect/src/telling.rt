@@ -1,8 +1,8 @@
 //! The text that the bytes of a file give.
-ghost use Rattle.std.specs.Prelude.{◌≡◌, ◌++◌, IfOk, OnOk, Some, take};
+ghost use Rattle.std.specs.Prelude.{◌≡◌, ◌++◌, Err, IfOk, Ok, OnOk, Some, take};
 ghost use Rattle.emtp_deck.specs.Deck.{deck_of};
 ghost use Rattle.emtp_causes.specs.KindText.{kinds_text};
-ghost use Rattle.emtp_inspect.specs.Telling.{cards_text, cause_of, count_text, listed_front, listed_of, listing_text, refused_by, refused_text, told_case, told_of, told_of_lines, told_unread};
+ghost use Rattle.emtp_inspect.specs.Telling.{behind_fields, cards_text, cause_of, count_text, fields_told, listed_front, listed_of, listing_text, refused_by, refused_text, told_case, told_of, told_of_lines, told_unread};
 ghost use Rattle.emtp_listing.specs.Lines.{lines_text};
 ghost use Rattle.emtp_run.specs.Note.{card_note};
 
@@ -12,9 +12,10 @@ use crate::each_card::Shown;
 use crate::run_cards::put_run_cards;
 use crate::words::Wanted;
 use emtp_card::{Bad, Cards, Refused};
-use emtp_case::Items;
+use emtp_case::{Case, Items};
 use emtp_causes::{kind_name, put_kinds, put_refusal, put_section, put_size};
 use emtp_deck::read;
+use emtp_fields::{put_lines, put_refused};
 use emtp_listing::listing;
 use emtp_run::bad_card;
 use emtp_text::{put, put_number};
@@ -32,7 +33,8 @@ pub enum Told {
 }
 
 /// What is told of these bytes: the listing of their case and its warnings, how many warnings there are, or as what each line
-/// is read; of a card that is refused, the records before it, its note and as what it was read, or what helps to mend it.
+/// is read, or the fields of the lines; of a card that is refused, the records before it, its note and as what it was read, or
+/// what helps to mend it.
 ///
 /// # Errors
 ///
@@ -70,6 +72,7 @@ fn tell_cards(alloc: Global, wanted: Wanted, cards: &Cards<'_>) -> Result<Told, 
         Wanted::WarningCount => tell_count(alloc, cards, &readings),
         Wanted::Kinds => tell_kinds(alloc, cards.len(), &readings),
         Wanted::Cause => tell_cause(alloc, cards, &readings),
+        Wanted::Fields => tell_fields(alloc, cards, &readings),
     }
 }
 
@@ -97,6 +100,63 @@ fn tell_cause(
         }
         Err(Refused::NoMemory) => Err(AllocError),
     }
+}
+
+fn tell_fields(
+    alloc: Global,
+    cards: &Cards<'_>,
+    readings: &[LineReading],
+) -> Result<Told, AllocError>
+    ensures { IfOk result (λ told. told ≡ Told.Answer (fields_told readings.now cards.now (deck_of cards.now))) }
+{
+    let mut text = Vec::new(alloc);
+    put_lines(&mut text, cards, readings)?;
+    put_behind(alloc, &mut text, cards, readings)?;
+    Ok(Told::Answer(Items::from_vec(text)))
+}
+
+/// Puts the warnings of a case, or its refusal, behind the fields of its lines.
+fn put_behind(
+    alloc: Global,
+    out: &mut Vec<u8>,
+    cards: &Cards<'_>,
+    readings: &[LineReading],
+) -> Result<(), AllocError>
+    ensures { OnOk result (out.new.items ≡ out.old.items ++ behind_fields readings.now cards.now (deck_of cards.now)) }
+{
+    match read(alloc, cards) {
+        Ok(case) => put_warnings(alloc, out, cards, readings, &case),
+        Err(Refused::Bad(bad)) => put_bad(out, cards, readings, &bad),
+        Err(Refused::NoMemory) => Err(AllocError),
+    }
+}
+
+fn put_warnings(
+    alloc: Global,
+    out: &mut Vec<u8>,
+    cards: &Cards<'_>,
+    readings: &[LineReading],
+    case: &Case,
+) -> Result<(), AllocError>
+    ensures { OnOk result (out.new.items ≡ out.old.items ++ behind_fields readings.now cards.now (Ok case.now.parts)) }
+{
+    let found = warnings(alloc, cards, readings, case)?;
+    let text = warnings_text(alloc, cards, readings, &found)?;
+    put(out, &text)
+}
+
+/// Puts where a refusal points, its note, and what helps to mend the card.
+fn put_bad(
+    out: &mut Vec<u8>,
+    cards: &Cards<'_>,
+    readings: &[LineReading],
+    bad: &Bad,
+) -> Result<(), AllocError>
+    ensures { OnOk result (out.new.items ≡ out.old.items ++ behind_fields readings.now cards.now (Err bad.now)) }
+{
+    put_refused(out, cards, readings, bad)?;
+    put(out, bad_card(bad).as_slice())?;
+    put_refusal(out, cards, readings, bad)
 }
 
 fn tell_listing(

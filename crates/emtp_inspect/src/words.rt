@@ -16,9 +16,12 @@ pub enum Wanted {
     Kinds,
     /// What helps to mend a card that is refused.
     Cause,
+    /// The fields of its lines, and the refusal or the warnings.
+    Fields,
 }
 
-/// What is wanted, and the name of the case's file, where the words fit: `CASE`, or `--count`, `--kinds` or `--why` and `CASE`.
+/// What is wanted, and the name of the case's file, where the words fit: `CASE`, or `--count`, `--kinds`, `--why` or
+/// `--fields` and `CASE`.
 pub(crate) fn read_words(words: &[String]) -> Option<(Wanted, &str)>
     ensures { option_map (λ a. (a.0, a.1.now)) result ≡ asked (texts words.now) }
 {
@@ -36,6 +39,7 @@ fn counted<'a>(first: &str, word: &'a str) -> Option<(Wanted, &'a str)>
         "--count" => named(Wanted::WarningCount, word),
         "--kinds" => named(Wanted::Kinds, word),
         "--why" => named(Wanted::Cause, word),
+        "--fields" => named(Wanted::Fields, word),
         _ => None,
     }
 }

@@ -1,12 +1,13 @@
 //! The program that tells what the run of a case is worth: the words of its command line, over the real files.
 //!
 //! ```text
+//! emtp_judge breaker.case
 //! emtp_judge --samples divider.case
 //! ```
 //!
-//! It reads the cards of a case and runs it, and writes the note of the run and all digits of its samples, or which card is
-//! refused, to standard output. The exit status is the number of the [`Status`], as that of `emtp`. It stands on `emtp_assess`
-//! for all that, and on `emtp_io` for the files.
+//! It reads the cards of a case and runs it, and writes the note of the run with what the run is worth or with all digits of its
+//! samples, or which card is refused, to standard output. The exit status is the number of the [`Status`], as that of `emtp`. It
+//! stands on `emtp_assess` for all that, and on `emtp_io` for the files.
 #![tactic(auto)]
 
 use emtp_assess::assess;

@@ -4,11 +4,12 @@ mod WorkedRuns
 pub mod SolvedSteps
 mod GroupVoltages
 mod ClosedSwitches
-mod ExactSources
+pub mod ExactSources
 pub mod NodeCurrents
 mod NamedNodes
 mod OpenSwitches
 mod Breakers
+mod Valves
 mod NodalConductances
 mod CoupledPhases
 mod Resistors

@@ -1,15 +1,16 @@
--- How breakers open, and which switches carry no current.
-use Rattle.std.specs.Prelude.{◌≡◌, ◌⊎◌, ◌≤◌, ◌<ℤ◌, ◌≤ℤ◌, ◌∷◌, [], ℕ, ℤ, pos, false, List, Option, Some, length, unsigned_abs}
+-- How breakers open, how valves go, and which switches carry no current.
+use Rattle.std.specs.Prelude.{◌≡◌, ◌⊎◌, ◌↔◌, ◌<◌, ◌≤◌, ◌<ℤ◌, ◌≤ℤ◌, ◌-ℤ◌, ◌∷◌, [], ℕ, ℤ, pos, Bool, false, true, List, Option, Some, length, unsigned_abs}
 use Rattle.emtp_case.specs.RowOrder.{order_of}
 use Rattle.emtp_case.specs.RunData.{time_of}
-use Rattle.emtp_case.specs.StepRecord.{StepRecord, record_back, switch_current_at, switch_state_at}
+use Rattle.emtp_case.specs.StepRecord.{StepRecord, is_closed, record_back, switch_current_at, switch_state_at, voltage_at}
 use Rattle.emtp_case.specs.declared.case.Parts.{Parts}
-use Rattle.emtp_case.specs.declared.switch.SwitchKind.TheVariants.{Time}
+use Rattle.emtp_case.specs.declared.switch.SwitchKind.TheVariants.{Time, Valve}
 use Rattle.emtp_case.specs.declared.switch.SwitchState.{SwitchState}
 use Rattle.emtp_case.specs.declared.switch.SwitchState.TheVariants.{Closed, Opened}
 use Rattle.emtp_elim.specs.Matrix.{item}
 use Rattle.emtp_switch.specs.Currents.{contains}
 use Rattle.emtp_switch.specs.Groups.{bridges_of, is_closed_at, switch_at}
+use Rattle.emtp_switch.specs.States.{is_on}
 
 -- ---- breakers
 
@@ -34,6 +35,30 @@ OpensBreakersRightly case (r ∷ s ∷ past) =
     → switch_state_at k r ≡ Opened
     → MayOpen open_at (time_of case.run (length (s ∷ past))) margin (switch_current_at k s)
     (switch_current_at k (record_back (s ∷ past) 1))
+
+-- ---- valves
+
+-- How a valve goes in a step after a record in which it has this voltage from its anode to its cathode, this current, and this
+-- state, and in which its variable, if it has one, is above 0 or not. While it conducts, it goes on exactly where the current
+-- isn't below the holding current; else it fires exactly where the voltage is above 0 and not below the ignition voltage, and
+-- it is on.
+pub record GoesByItsNumbers (ignition holding voltage current : ℤ) (on : Bool) (before now : SwitchState) : Type 0 where
+  pub holds : is_closed before ≡ true → (now ≡ Closed) ↔ (holding ≤ℤ current)
+  pub fires : is_closed before ≡ false → (now ≡ Closed) ↔ ((pos 0 <ℤ voltage) × (ignition ≤ℤ voltage) × (on ≡ true))
+  pub opens : (now ≡ Closed) ⊎ (now ≡ Opened)
+
+-- a switch that is this valve goes by its numbers, from one state after a record to the next
+abbrev pub GoesRightly : Parts → ℕ → StepRecord → SwitchState → Type 0
+GoesRightly case k r now =
+    (ignition holding : ℤ) (control : Option ℕ) → (switch_at case.switches k).kind ≡ Valve ignition holding control
+    → GoesByItsNumbers ignition holding (voltage_at (switch_at case.switches k).from r -ℤ voltage_at (switch_at case.switches k).to r)
+    (switch_current_at k r) (is_on control r) (switch_state_at k r) now
+
+-- each valve has in the last record of a run the state to which it goes after the one before it
+abbrev pub GoValvesRightly : Parts → List StepRecord → Type 0
+GoValvesRightly case [] = Unit {0}
+GoValvesRightly case (r ∷ []) = Unit {0}
+GoValvesRightly case (r ∷ s ∷ past) = (k : ℕ) → k < length case.switches → GoesRightly case k s (switch_state_at k r)
 
 -- ---- switches without a current
 

@@ -40,4 +40,6 @@ pub use runs::{
     ends_name_what_they_blame, longer_run_begins_alike, runs_agree_until_sources_differ,
     runs_agree_until_sources_end, samples_are_counted,
 };
-pub use switches::{breaker_opens_near_zero_current, idle_switches_have_no_current};
+pub use switches::{
+    breaker_opens_near_zero_current, idle_switches_have_no_current, valve_goes_by_its_numbers,
+};

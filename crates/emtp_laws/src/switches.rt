@@ -10,7 +10,7 @@ ghost use Rattle.emtp_net.specs.Part.{NetworkPart};
 ghost use Rattle.emtp_net.specs.Step.{network_part};
 ghost use Rattle.emtp_switch.specs.Groups.{switch_at};
 ghost use Rattle.emtp_switch.specs.States.{next_state};
-ghost use Rattle.emtp_laws.specs.Switches.{AreIdleSwitchesDead, MayOpen, OpensBreakersRightly};
+ghost use Rattle.emtp_laws.specs.Switches.{AreIdleSwitchesDead, GoValvesRightly, GoesRightly, MayOpen, OpensBreakersRightly};
 
 use emtp_case::Case;
 
@@ -23,6 +23,15 @@ pub fn breaker_opens_near_zero_current(case: &Case)
         → MayOpen open_at (time_of case.now.parts.run (length H)) margin (switch_current_at s (latest H))
         (switch_current_at s (record_back H 1)) }
     ensures run { (n : ℕ) → OpensBreakersRightly case.now.parts (records_upto case.now.parts n) }
+{}
+
+/// A valve goes by its numbers. While it conducts, it goes on in the next step exactly where its current isn't below the
+/// holding current. While it doesn't, it fires in the next step exactly where its voltage from anode to cathode is above 0 and
+/// not below the ignition voltage, and its variable of the control, if it has one, above 0. So it is in each step after
+/// whatever records, and from each record of a run to the next.
+pub fn valve_goes_by_its_numbers(case: &Case)
+    ensures step { (H : List StepRecord) (s : ℕ) → GoesRightly case.now.parts s (latest H) (next_state case.now.parts H s) }
+    ensures run { (n : ℕ) → GoValvesRightly case.now.parts (records_upto case.now.parts n) }
 {}
 
 /// An open switch has no current, and neither has a slack one, which closes a loop of closed switches.

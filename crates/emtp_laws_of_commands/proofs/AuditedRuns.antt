@@ -49,7 +49,7 @@ audit_made f files text cfg dat p e there cfg_there dat_there is =
     ∙ ap (λ o. option_map (outcome_of (Audit f)) (option_map (λ texts. [] ++ texts) (and_content (Some (take (MAX_BYTES + 1) text)) (and_content (Some (take RECORD_BOUND cfg)) (and_content o (Some [])))))) (read_of files f.dat dat RECORD_BOUND dat_there)
     ∙ ap (λ r. Some (answer_by (Audit f) (take (MAX_BYTES + 1) text ∷ take RECORD_BOUND cfg ∷ take RECORD_BOUND dat ∷ []) r)) is
 
-some_same : {A : Type 0} (x y : A) → Some x ≡ Some y → x ≡ y
+pub some_same : {A : Type 0} (x y : A) → Some x ≡ Some y → x ≡ y
 some_same x y e = cc
 
 pub audited_same : (p : Parts) → IsCase p → (f : RunFiles) (files : List ℕ → Option (List ℕ)) (text : List ℕ) (made : Outcome) → fits (run_words f) ≡ Some (Run f) → files f.case ≡ Some text → deck (take (MAX_BYTES + 1) text) ≡ Ok p

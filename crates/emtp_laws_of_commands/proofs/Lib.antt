@@ -2,6 +2,12 @@ pub mod AcceptedBytes
 pub mod ShortRecords
 pub mod AuditedRuns
 pub mod RowsOfBatches
+pub mod WrittenRuns
+pub mod RefusedStates
+pub mod RefusedOutputs
+pub mod RefusedCounts
+pub mod RefusedCalls
+pub mod RefusedSamples
 pub mod WorkedArresterOnAFront
 pub mod WorkedBlockOfOrder8
 pub mod WorkedControlledSwitch

@@ -9,12 +9,14 @@
 //! // now `audit` over the files that `run` makes of a case is known to say AUDIT SAME
 //! ```
 //!
-//! Beside the laws stand worked runs (`proofs/Worked*.antt`): of a folder of `examples/` or `cases/` each byte that is written, by
-//! computation from the bytes of its case. `cases/scripts/worked` writes these files and compares them with the folders.
+//! Beside the laws stand worked runs (`proofs/Worked*.antt`): of a folder of `examples/` or `cases/` each byte that is written,
+//! by computation from the bytes of its case. `cases/scripts/worked` writes these files and compares them with the folders. And
+//! of each relation in which the clauses of `emtp` speak stand states that it refuses (`proofs/Refused*.antt`): a byte wrong,
+//! two files exchanged, a call too many, a failure that is not counted.
 #![tactic(auto)]
 
 mod records;
 mod rows;
 
-pub use records::own_record_is_audited_as_the_same;
+pub use records::{data_file_tells_records_that_balance, own_record_is_audited_as_the_same};
 pub use rows::{row_is_the_run_of_its_case, row_is_the_run_of_the_cards_with_its_times};

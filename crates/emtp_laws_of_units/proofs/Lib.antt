@@ -3,6 +3,8 @@ pub mod Trapezoids
 pub mod LosslessLines
 pub mod LineSteps
 pub mod LineRuns
+pub mod LossyLines
+pub mod PhaseImpedances
 pub mod Memoryless
 pub mod CommonTimes
 pub mod LaterSources
@@ -10,6 +12,8 @@ pub mod ChangedSources
 pub mod RestingRuns
 pub mod LaterRuns
 pub mod Reactors
+pub mod NonlinearResistors
+pub mod SourceTimes
 pub mod Directions
 pub mod TableSums
 pub mod Periods

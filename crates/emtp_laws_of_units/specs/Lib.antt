@@ -5,3 +5,7 @@ pub mod Later
 pub mod Reactor
 pub mod CosineTable
 pub mod Resistor
+pub mod Characteristic
+pub mod Stops
+pub mod Losses
+pub mod ThreePhases

@@ -13,17 +13,25 @@
 #![tactic(auto)]
 
 mod cosine;
+mod losses;
+mod nonlinear;
+mod phases;
 mod reactor;
 mod resistor;
 mod series;
+mod stops;
 mod time;
 mod travel;
 
 pub use cosine::{cosine_repeats_after_its_period, cosine_table_adds_up};
+pub use losses::line_with_losses_mixes_its_waves;
+pub use nonlinear::nonlinear_resistor_current_lies_on_its_segment;
+pub use phases::three_phases_meet_both_surge_impedances;
 pub use reactor::{reactor_current_lies_on_its_segment, reactor_flux_follows_the_trapezoidal_rule};
 pub use resistor::resistor_has_the_voltage_of_its_current;
 pub use series::{
     capacitance_follows_the_trapezoidal_rule, inductance_follows_the_trapezoidal_rule,
 };
+pub use stops::sources_act_from_start_to_stop;
 pub use time::{later_sources_act_later, memoryless_networks_go_by_time_alone};
 pub use travel::{lossless_line_delays_between_two_steps, lossless_line_delays_by_its_travel_time};

@@ -9,6 +9,7 @@ ghost use Rattle.emtp_line.specs.held.Mode.{IsMode};
 ghost use Rattle.emtp_line.specs.held.Waves.{IsWaves, WavesStand};
 
 use crate::mode::Mode;
+use crate::overflowing::overflowing_next;
 use crate::wave::end;
 use crate::waves::Waves;
 use emtp_case::LineState;
@@ -41,7 +42,29 @@ impl HeldLine {
 
     /// Takes the voltages of both ends in nV, moves the line by one step and answers the branch current in nA. `word`
     /// is the kept word of the time step.
+    #[inline(always)]
     pub(crate) fn accept(&mut self, v: i64, w: i64, word: u64) -> Result<i64, OutOfRange>
+        requires { IsHeld self.old }
+        ensures fits { IsHeld self.new }
+        ensures mode { self.new.waves.mode ≡ self.old.waves.mode }
+        ensures moved { (past : List LineState) → LineStands self.old past
+            → IfOk result (LineMoved self.new past (next_state self.old.waves.mode past v w)) }
+        ensures out { (past : List LineState) → LineStands self.old past
+            → OnErr result (next_state self.old.waves.mode past v w ≡ None) }
+        ensures same { OnErr result (self.new ≡ self.old) }
+    {
+        let next = overflowing_next(&self.waves, v, w);
+        if next.overflow != 0 {
+            return self.accept_with_care(v, w, word);
+        }
+        self.push(&next.state, word);
+        Ok(next.state.from_current)
+    }
+
+    /// The same, with a test at each number.
+    #[cold]
+    #[inline(never)]
+    fn accept_with_care(&mut self, v: i64, w: i64, word: u64) -> Result<i64, OutOfRange>
         requires { IsHeld self.old }
         ensures fits { IsHeld self.new }
         ensures mode { self.new.waves.mode ≡ self.old.waves.mode }
@@ -81,6 +104,7 @@ impl HeldLine {
     }
 
     /// Makes the numbers of a step the newest ones.
+    #[inline(always)]
     pub(crate) fn push(&mut self, state: &LineState, word: u64)
         requires held { IsHeld self.old }
         requires from { unsigned_abs state.now.from_current ≤ LARGEST_VALUE }

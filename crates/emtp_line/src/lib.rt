@@ -18,6 +18,7 @@ mod held_trio;
 mod laws;
 mod lines;
 mod mode;
+mod overflowing;
 mod phase_end;
 mod phase_states;
 mod rest;

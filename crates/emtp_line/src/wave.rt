@@ -8,6 +8,7 @@ ghost use Rattle.emtp_line.specs.held.Mode.{IsMode};
 ghost use Rattle.emtp_line.specs.Wave.{between, past_wave, history_of, wave_of, end_of};
 
 use crate::mode::{Mode, WHOLE};
+use crate::overflowing::overflowing_history;
 use emtp_fix::{PICO, in_range, near, near_by};
 use emtp_hist::History;
 
@@ -25,6 +26,24 @@ pub(crate) fn histories(mode: &Mode, from: &History, to: &History, word: u64) ->
 {
     let from = past(mode, from, word);
     let to = past(mode, to, word);
+    let (from_history, overflow) = overflowing_history(mode, to, from, 0);
+    let (to_history, overflow) = overflowing_history(mode, from, to, overflow);
+    if overflow != 0 {
+        return histories_with_care(mode, from, to);
+    }
+    (i128::from(from_history), i128::from(to_history))
+}
+
+/// The same of the waves that left the ends one travel time before, with a test at each number.
+#[cold]
+#[inline(never)]
+fn histories_with_care(mode: &Mode, from: i64, to: i64) -> (i128, i128)
+    requires { IsMode mode.now }
+    ensures from { result.0 ≡ neg_ℤ (near (mode.now.far_share *ℤ to) PICO) -ℤ near (mode.now.near_share *ℤ from) PICO }
+    ensures to { result.1 ≡ neg_ℤ (near (mode.now.far_share *ℤ from) PICO) -ℤ near (mode.now.near_share *ℤ to) PICO }
+    ensures from_small { unsigned_abs result.0 ≤ 10 ^ 20 }
+    ensures to_small { unsigned_abs result.1 ≤ 10 ^ 20 }
+{
     (history(mode, to, from), history(mode, from, to))
 }
 
@@ -66,7 +85,6 @@ fn portion(mode: &Mode, rise: i128, word: u64) -> i128
     near_by(mode.rest as i128 * rise, mode.dt as i128, word)
 }
 
-#[inline(always)]
 fn history(mode: &Mode, other: i64, own: i64) -> i128
     requires { IsMode mode.now }
     ensures value { result ≡ neg_ℤ (near (mode.now.far_share *ℤ other) PICO) -ℤ near (mode.now.near_share *ℤ own) PICO }
@@ -76,7 +94,6 @@ fn history(mode: &Mode, other: i64, own: i64) -> i128
 }
 
 /// The current and the wave of an end at a history current and a voltage, where both are in range.
-#[inline(always)]
 pub(crate) fn end(mode: &Mode, history: i128, v: i64) -> Option<(i64, i64)>
     requires mode { IsMode mode.now }
     requires history { unsigned_abs history ≤ 10 ^ 20 }

@@ -1,9 +1,8 @@
 //! One step of a series branch without a test: numbers that may be wrong, and an overflow word that says so.
 
-ghost use Rattle.std.specs.Prelude.{◌≡◌, ◌^◌, ◌*◌, ◌<◌, ◌≤◌, ◌-ℤ◌, unsigned_abs, Some};
+ghost use Rattle.std.specs.Prelude.{◌≡◌, ◌^◌, ◌<◌, ◌≤◌, ◌-ℤ◌, pos, unsigned_abs};
 ghost use Rattle.emtp_lumped.specs.held.Companion.{IsCompanion};
-ghost use Rattle.emtp_lumped.specs.Step.{history_current_of, next_state};
-ghost use Rattle.emtp_lumped.specs.held.Held.{IsKeptHistory};
+ghost use Rattle.emtp_lumped.specs.held.Held.{IsKeptHistory, IsNextStep};
 ghost use Rattle.emtp_lumped.specs.held.Step.{IsInRange};
 
 use crate::companion::Companion;
@@ -23,7 +22,7 @@ pub(crate) struct NextStep {
 
 /// The step of a branch at a voltage, from its kept history current.
 #[inline(always)]
-pub(crate) fn overflowing_next(
+fn overflowing_series(
     companion: &Companion,
     old: &LumpedState,
     history: i64,
@@ -33,11 +32,7 @@ pub(crate) fn overflowing_next(
     requires companion { IsCompanion companion.now }
     requires old { IsInRange old.now }
     requires history { IsKeptHistory companion.now old.now history }
-    ensures value { result.overflow ≡ 0 → next_state companion.now old.now v ≡ Some result.state }
-    ensures range { result.overflow ≡ 0 → IsInRange result.state }
-    ensures history { result.overflow ≡ 0 → result.history_current ≡ history_current_of companion.now result.state }
-    ensures small { unsigned_abs result.history_current ≤ 13 * 10 ^ 17 }
-    ensures overflow { result.overflow ≡ 0 → overflow ≡ 0 }
+    ensures { IsNextStep companion.now old.now v overflow result }
 {
     let (current, overflow) = overflowing_pico_sum(companion.conductance, v, history, overflow);
     let (v_l, overflow) = overflowing_micro_sum(
@@ -71,6 +66,118 @@ pub(crate) fn overflowing_next(
         },
         history_current,
         overflow,
+    }
+}
+
+/// The same of a branch without capacitance: the voltage of what isn't there stays.
+#[inline(always)]
+fn overflowing_inductive(
+    companion: &Companion,
+    old: &LumpedState,
+    history: i64,
+    v: i64,
+    overflow: u64,
+) -> NextStep
+    requires none { companion.now.capacitor ≡ pos 0 }
+    requires companion { IsCompanion companion.now }
+    requires old { IsInRange old.now }
+    requires history { IsKeptHistory companion.now old.now history }
+    ensures { IsNextStep companion.now old.now v overflow result }
+{
+    let (current, overflow) = overflowing_pico_sum(companion.conductance, v, history, overflow);
+    let (v_l, overflow) = overflowing_micro_sum(
+        companion.inductor,
+        current - old.current,
+        -old.v_l,
+        overflow,
+    );
+    let (history_voltage, overflow) = overflowing_micro_sum(
+        companion.inductor,
+        current,
+        v_l - old.v_c,
+        overflow,
+    );
+    let (history_current, overflow) = overflowing_near_pico(
+        wide_product(companion.conductance, history_voltage),
+        overflow,
+    );
+    NextStep {
+        state: LumpedState {
+            current,
+            v_l,
+            v_c: old.v_c,
+            history_voltage,
+        },
+        history_current,
+        overflow,
+    }
+}
+
+/// The same of a branch without inductance, whose voltage turns its sign.
+#[inline(always)]
+fn overflowing_capacitive(
+    companion: &Companion,
+    old: &LumpedState,
+    history: i64,
+    v: i64,
+    overflow: u64,
+) -> NextStep
+    requires none { companion.now.inductor ≡ pos 0 }
+    requires companion { IsCompanion companion.now }
+    requires old { IsInRange old.now }
+    requires history { IsKeptHistory companion.now old.now history }
+    ensures { IsNextStep companion.now old.now v overflow result }
+{
+    let (current, overflow) = overflowing_pico_sum(companion.conductance, v, history, overflow);
+    let v_l = -old.v_l;
+    let (v_c, overflow) = overflowing_micro_sum(
+        companion.capacitor,
+        current + old.current,
+        old.v_c,
+        overflow,
+    );
+    let (history_voltage, overflow) = overflowing_micro_sum(
+        -companion.capacitor,
+        current,
+        v_l - v_c,
+        overflow,
+    );
+    let (history_current, overflow) = overflowing_near_pico(
+        wide_product(companion.conductance, history_voltage),
+        overflow,
+    );
+    NextStep {
+        state: LumpedState {
+            current,
+            v_l,
+            v_c,
+            history_voltage,
+        },
+        history_current,
+        overflow,
+    }
+}
+
+/// The step of a branch by what it has: without capacitance or without inductance a product less is made.
+#[inline(always)]
+pub(crate) fn overflowing_next(
+    companion: &Companion,
+    old: &LumpedState,
+    history: i64,
+    v: i64,
+    overflow: u64,
+) -> NextStep
+    requires companion { IsCompanion companion.now }
+    requires old { IsInRange old.now }
+    requires history { IsKeptHistory companion.now old.now history }
+    ensures { IsNextStep companion.now old.now v overflow result }
+{
+    if companion.capacitor == 0 {
+        overflowing_inductive(companion, old, history, v, overflow)
+    } else if companion.inductor == 0 {
+        overflowing_capacitive(companion, old, history, v, overflow)
+    } else {
+        overflowing_series(companion, old, history, v, overflow)
     }
 }
 

@@ -8,3 +8,4 @@ pub mod Ticks
 pub mod Chains
 pub mod SampleRecords
 pub mod RecordRanges
+mod Reading

@@ -75,7 +75,7 @@ fn control_end(case: &Case, step: u32, fault: TacsFault) -> End
 }
 
 impl<'c> ControlledNetwork<'c> {
-    /// Both at record 0, with one table of the cosine. No later call takes memory.
+    /// Both at record 0, with one table of the cosine. No later call has an answer for want of memory.
     pub(crate) fn open(
         alloc: Global,
         case: &'c Case,

@@ -1,17 +1,22 @@
 //! The machine of a case: one step after the other, from rest on.
 
-ghost use Rattle.std.specs.Prelude.{◌≡◌, ◌≢◌, ◌+◌, ◌<◌, ◌≤◌, length, None, IfErr, IfNone, IfOk, IfSome};
+ghost use Rattle.std.specs.Prelude.{◌≡◌, ◌≢◌, ◌+◌, ◌<◌, ◌≤◌, length, unsigned_abs, None, All, IfErr, IfNone, IfOk, IfSome};
 ghost use Rattle.std.specs.Bool.{OnFalse, OnTrue};
+ghost use Rattle.emtp_case.specs.StepRecord.{branch_current_at, latest, pseudo_at};
+ghost use Rattle.emtp_case.specs.declared.branch.Pseudo.{Pseudo};
+ghost use Rattle.emtp_case.specs.declared.limit.TheConstants.{MOST_STEPS};
+ghost use Rattle.emtp_fix.specs.declared.limit.TheConstants.{LARGEST_VALUE};
 ghost use Rattle.emtp_machine.specs.History.{history, redone, samples};
 ghost use Rattle.emtp_machine.specs.held.History.{rows_of_run};
 ghost use Rattle.emtp_machine.specs.Machine.{IsEnd};
 ghost use Rattle.emtp_machine.specs.held.Machine.{HasTicked, MayStep, answer_of, history_of};
 ghost use Rattle.emtp_machine.specs.Laws.{SamplesBalance};
+ghost use Rattle.emtp_pseudo.specs.held.Pseudos.{IsPseudoAt};
 
 use crate::controlled::ControlledNetwork;
 use crate::end::End;
 use crate::samples::Samples;
-use emtp_case::Case;
+use emtp_case::{Case, PseudoState};
 use emtp_fix::Steps;
 use emtp_wave::CosTable;
 use std::alloc::{AllocError, Global};
@@ -53,7 +58,7 @@ impl<'c> Model for Machine<'c> {
 }
 
 impl<'c> Machine<'c> {
-    /// The machine at record 0, which is a sample. All memory of a run is taken here.
+    /// The machine at record 0, which is a sample. No later call has an answer for want of memory.
     ///
     /// # Errors
     ///
@@ -143,8 +148,8 @@ impl<'c> Machine<'c> {
         }
     }
 
-    /// Makes all steps that are left, or those before the end, and answers the end, if it came. It takes no memory, as
-    /// no step does.
+    /// Makes all steps that are left, or those before the end, and answers the end, if it came. It has no answer for want
+    /// of memory, and the lists that `capacities` names keep their capacities.
     pub fn run<L: Ledger>(&mut self, steps: &mut Steps<L>) -> Option<End>
         ensures case { self.new.case ≡ self.old.case }
         ensures capacities { self.new.capacities ≡ self.old.capacities }
@@ -173,9 +178,50 @@ impl<'c> Machine<'c> {
 
     /// The number of steps that were made: rest is no step, and neither is that of an end.
     pub fn done(&self) -> u32
-        ensures { result + 1 ≡ length (history_of self.now).records }
+        ensures value { result + 1 ≡ length (history_of self.now).records }
+        ensures few { result ≤ MOST_STEPS }
     {
         self.made
+    }
+
+    /// The voltages of the nodes in the last record, ground first, in nV. A step that ends a run leaves no record to read.
+    pub fn voltages(&self) -> &[i64]
+        requires running { (history_of self.now).end ≡ None }
+        ensures value { result.now ≡ (latest (history_of self.now).records).voltages }
+        ensures each { length result.now ≡ length self.now.case.nodes + 1 }
+        ensures small { All (λ v. unsigned_abs v ≤ LARGEST_VALUE) result.now }
+    {
+        self.network.network.voltages()
+    }
+
+    /// The current of a branch in the last record, in nA: it flows from `from` to `to`, into a line at `from`.
+    pub fn branch_current(&self, branch: usize) -> i64
+        requires running { (history_of self.now).end ≡ None }
+        requires branch { branch < length self.now.case.branches }
+        ensures { result ≡ branch_current_at branch (latest (history_of self.now).records) }
+    {
+        self.network.network.branch_current(branch)
+    }
+
+    /// The switch currents in the last record, in nA: they flow from `from` to `to`.
+    pub fn switch_currents(&self) -> &[i64]
+        requires running { (history_of self.now).end ≡ None }
+        ensures value { result.now ≡ (latest (history_of self.now).records).switch_currents }
+        ensures each { length result.now ≡ length self.now.case.switches }
+    {
+        self.network.network.currents()
+    }
+
+    /// What the last record keeps of a pseudo-nonlinear branch: its current in nA, the segment that the next step is on, its
+    /// flux in pWb.
+    pub fn pseudo(&self, branch: usize) -> PseudoState
+        requires running { (history_of self.now).end ≡ None }
+        requires branch { (x : Pseudo) × IsPseudoAt self.now.case branch x }
+        ensures value { result ≡ pseudo_at branch (latest (history_of self.now).records) }
+        ensures current { unsigned_abs result.current ≤ LARGEST_VALUE }
+        ensures flux { unsigned_abs result.flux ≤ LARGEST_VALUE }
+    {
+        self.network.network.pseudo(branch)
     }
 
     /// The samples of the records so far.

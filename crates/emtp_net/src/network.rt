@@ -3,19 +3,21 @@
 ghost use Rattle.emtp_case.specs.declared.limit.TheConstants.{MOST_NODES};
 ghost use Rattle.std.specs.Prelude.{◌≡◌, ◌+◌, ◌*◌, ◌<◌, ◌≤◌, ◌∷◌, [], List, length, map, pos, replicate, unsigned_abs, All, IfErr, IfOk};
 ghost use Rattle.emtp_case.specs.RowOrder.{order_of};
-ghost use Rattle.emtp_case.specs.StepRecord.{StepRecord, branch_current_at, is_closed, latest, rest_of};
+ghost use Rattle.emtp_case.specs.StepRecord.{StepRecord, branch_current_at, is_closed, latest, pseudo_at, rest_of};
+ghost use Rattle.emtp_case.specs.declared.branch.Pseudo.{Pseudo};
 ghost use Rattle.emtp_fix.specs.declared.limit.TheConstants.{LARGEST_VALUE};
 ghost use Rattle.emtp_net.specs.held.Branches.{HasCase, StandsFor as BranchesStandFor};
 ghost use Rattle.emtp_net.specs.held.Fault.{NamesNode};
 ghost use Rattle.emtp_net.specs.held.Holding.{HoldsRows};
 ghost use Rattle.emtp_net.specs.held.Network.{HasCounted, MakesStep, StandsFor, TicksStep};
+ghost use Rattle.emtp_pseudo.specs.held.Pseudos.{IsPseudoAt};
 
 use crate::branches::Branches;
 use crate::factor::{NodalMatrix, set_all_conductances, set_couplings};
 use crate::fault::NetFault;
 use crate::nodal_system::{NodalSystem, zeros};
 use crate::step_network::StepNetwork;
-use emtp_case::{Case, RowOrder, order};
+use emtp_case::{Case, PseudoState, RowOrder, order};
 use emtp_fix::Steps;
 use emtp_rows::NetRows;
 use emtp_switch::Switches;
@@ -77,7 +79,7 @@ impl<'a> Model for Network<'a> {
 }
 
 impl<'a> Network<'a> {
-    /// The network of record 0, in which all is at rest. No later call takes memory.
+    /// The network of record 0, in which all is at rest. No later call has an answer for want of memory.
     pub fn open(alloc: Global, case: &'a Case) -> Result<Network<'a>, AllocError>
         ensures case { IfOk result (λ network. network.case ≡ case.now.parts) }
         ensures rest { IfOk result (λ network. StandsFor network (rest_of case.now.parts ∷ [])) }
@@ -217,6 +219,17 @@ impl<'a> Network<'a> {
         ensures { (H : List StepRecord) → StandsFor self.now H → result ≡ branch_current_at branch (latest H) }
     {
         self.branches.current(self.case, &self.currents, branch)
+    }
+
+    /// What the last record keeps of a pseudo-nonlinear branch: its current in nA, the segment that the next step is on, its
+    /// flux in pWb.
+    pub fn pseudo(&self, branch: usize) -> PseudoState
+        requires { (x : Pseudo) × IsPseudoAt self.now.case branch x }
+        ensures value { (H : List StepRecord) → StandsFor self.now H → result ≡ pseudo_at branch (latest H) }
+        ensures current { unsigned_abs result.current ≤ LARGEST_VALUE }
+        ensures flux { unsigned_abs result.flux ≤ LARGEST_VALUE }
+    {
+        self.branches.pseudos.state(branch)
     }
 
     /// How many rows of the nodal matrix the steps redid, but for the first step.

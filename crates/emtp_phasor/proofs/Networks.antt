@@ -14,9 +14,9 @@ use Rattle.emtp_elim.specs.Outcome.{outcome}
 use Rattle.emtp_phasor.specs.Steady.{doubled_solution, doubled_system, named_ending, resting_kinds, steady_right}
 use Rattle.emtp_phasor.specs.declared.ending.Ending.{Ending}
 use Rattle.emtp_phasor.specs.held.SteadyNetwork.{IsSteadyNetwork, doubled_of}
-use Rattle.emtp_phasor.specs.declared.resting.RestingNetwork.{RestingNetwork}
+use Rattle.emtp_phasor.specs.declared.resting_network.RestingNetwork.{RestingNetwork}
 use Rattle.emtp_phasor.specs.declared.steady_network.SteadyNetwork.{SteadyNetwork}
-use Rattle.emtp_phasor.specs.declared.system.System.{System}
+use Rattle.emtp_phasor.specs.declared.doubled_system.System.{System}
 use Rattle.emtp_phasor.proofs.Volting.{kinds_size}
 
 pub resting_network : (r : RestingNetwork) (n : SteadyNetwork) → IsResting n.case.now.parts r → n.order.now ≡ r.order → length n.ports.now ≡ length n.case.now.parts.branches → All IsSmallPort n.ports.now

@@ -18,7 +18,7 @@ use Rattle.emtp_phasor.specs.Steady.{entering}
 use Rattle.emtp_phasor.specs.Volts.{nothing, volt_at}
 use Rattle.emtp_phasor.specs.declared.line.ScanLine.{ScanLine}
 use Rattle.emtp_phasor.specs.declared.phasor.Phasor.{Phasor}
-use Rattle.emtp_phasor.specs.declared.solving.Phasors.{Phasors}
+use Rattle.emtp_phasor.specs.declared.steady_state.Phasors.{Phasors}
 
 -- ---- currents
 

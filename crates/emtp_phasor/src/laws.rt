@@ -21,7 +21,7 @@ ghost use Rattle.emtp_phasor.specs.Steady.{entering, steady};
 ghost use Rattle.emtp_phasor.specs.Volts.{nothing, volt_at};
 ghost use Rattle.emtp_phasor.specs.declared.line.ScanAnswer.TheVariants.{Impedance};
 ghost use Rattle.emtp_phasor.specs.declared.phasor.Phasor.{Phasor};
-ghost use Rattle.emtp_phasor.specs.declared.solving.Phasors.{Phasors};
+ghost use Rattle.emtp_phasor.specs.declared.steady_state.Phasors.{Phasors};
 
 use emtp_case::Case;
 

@@ -11,25 +11,26 @@
 //! let lines = scan(alloc, &case, 50_000_000, 2_000_000_000, 50_000_000)?;    // 50 Hz to 2 kHz
 //! ```
 //!
-//! - `solving`: the steady state at one frequency
+//! - `steady_state`: the steady state at one frequency
 //! - `scanning`: the impedance over frequencies, line by line
-//! - `resting`: the network at rest, which is the same at all frequencies
-//! - `opening`: the kinds of its rows, and its right side
+//! - `resting_network`: the network at rest, which is the same at all frequencies
+//! - `resting_rows`: the kinds of its rows, and its right side
 //! - `groups`: the rows of each group that closed switches join
 //! - `node_branches`: the branches at each node
 //! - `sources`: what sources bring to rows
 //! - `steady_network`: the same network with its two-ports at a frequency
 //! - `fill`: a row of its doubled matrix
-//! - `eliminating`: the rows of this matrix, finished one after another
-//! - `room`: room for a solution, and the unknowns in it
-//! - `system`: network, two-ports and room, solved for one frequency after the other
+//! - `elimination`: the rows of this matrix, finished one after another
+//! - `workspace`: what a solution at a frequency is worked out in, and the unknowns in it
+//! - `doubled_system`: network, two-ports and workspace, solved for one frequency after the other
 //! - `voltages`: the voltages by node, and whether they are good
 //! - `flow`: currents of branches, and residuals
 //! - `phasor`, `line`, `ending`, `fault`: a complex number, a line of a scan, how a solution ends, why there is no answer
 //! - `laws`: what an engineer may count on
 #![tactic(auto)]
 
-mod eliminating;
+mod doubled_system;
+mod elimination;
 mod ending;
 mod fault;
 mod fill;
@@ -38,16 +39,15 @@ mod groups;
 mod laws;
 mod line;
 mod node_branches;
-mod opening;
 mod phasor;
-mod resting;
-mod room;
+mod resting_network;
+mod resting_rows;
 mod scanning;
-mod solving;
 mod sources;
 mod steady_network;
-mod system;
+mod steady_state;
 mod voltages;
+mod workspace;
 
 pub use fault::PhasorFault;
 pub use laws::{
@@ -58,4 +58,4 @@ pub use laws::{
 pub use line::{ScanAnswer, ScanLine};
 pub use phasor::Phasor;
 pub use scanning::{MOST_FREQUENCIES, scan};
-pub use solving::{Phasors, solve};
+pub use steady_state::{Phasors, solve};

@@ -14,12 +14,12 @@ ghost use Rattle.emtp_phasor.specs.held.Scanning.{FaultsScan, IsScan, IsScanned}
 ghost use Rattle.emtp_phasor.specs.Steady.{steady};
 ghost use Rattle.emtp_phasor.specs.held.Volts.{IsVolt};
 
+use crate::doubled_system::{System, no_ports};
 use crate::ending::Ending;
 use crate::fault::PhasorFault;
 use crate::line::{ScanAnswer, ScanLine};
 use crate::phasor::Phasor;
-use crate::resting::Stop;
-use crate::system::{System, no_ports};
+use crate::resting_network::Stop;
 use emtp_admittance::{Probe, TwoPort, judged_ports, judged_probe};
 use emtp_case::Case;
 use emtp_fix::{NANO, Steps, in_range, scaled};
@@ -34,7 +34,7 @@ pub const MOST_FREQUENCIES: usize = 10_000;
 
 /// The impedance that the one source of a case sees, from the frequency `first` to `last` by steps of `by`, in micro-hertz.
 ///
-/// Each line is that of a system which is built for its frequency alone and eliminated from its first row, in the room
+/// Each line is that of a system which is built for its frequency alone and eliminated from its first row, in the workspace
 /// that was taken for all of them. The case has one source, a cosine current source without phase ([`judged_probe`]). A frequency at
 /// which a card is refused, or at which the solution ends, has that in its line. This project's own.
 pub fn scan(
@@ -220,7 +220,7 @@ fn solved_answer<L: Ledger>(
     ensures value { result ≡ answer_of_state case.now.parts probe.now (steady case.now.parts freq) }
 {
     match system.at(case, freq, steps) {
-        Ok(_) => impedance_seen(case, probe, system.room.volts[probe.node as usize]),
+        Ok(_) => impedance_seen(case, probe, system.workspace.volts[probe.node as usize]),
         Err(end) => told_end(case, end),
     }
 }

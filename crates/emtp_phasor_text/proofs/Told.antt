@@ -7,7 +7,7 @@ use Rattle.emtp_case.specs.declared.case.Parts.{Parts}
 use Rattle.emtp_machine.specs.Next.{node_name}
 use Rattle.emtp_machine.specs.declared.end.Cause.{Cause}
 use Rattle.emtp_phasor.specs.held.Solving.{EndsSolution, IsSolved}
-use Rattle.emtp_phasor.specs.declared.solving.Phasors.{Phasors}
+use Rattle.emtp_phasor.specs.declared.steady_state.Phasors.{Phasors}
 use Rattle.emtp_phasor_text.specs.Reports.{steady_report, told_frequency, told_state}
 use Rattle.emtp_phasor_text.specs.Texts.{refusal_note, steady_end_note, steady_summary}
 use Rattle.emtp_phasor_text.specs.declared.report.Report.TheVariants.{Ended as TellsEnd, Refused as TellsRefusal, Summary}

@@ -4,7 +4,7 @@ ghost use Rattle.std.specs.Prelude.{◌≡◌, ◌^◌, ◌≤◌, ◌∷◌, []
 ghost use Rattle.emtp_case.specs.held.Range.{IsBetween};
 ghost use Rattle.emtp_case.specs.StepRecord.{rest_of};
 ghost use Rattle.emtp_case.specs.declared.branch.Pseudo.{Pseudo};
-ghost use Rattle.emtp_fix.specs.declared.limit.TheConstants.{LARGEST_ENTRY};
+ghost use Rattle.emtp_fix.specs.declared.limit.TheConstants.{LARGEST_ENTRY, LARGEST_VALUE};
 ghost use Rattle.emtp_pseudo.specs.held.Held.{HasNumbers, IsOfBranch};
 ghost use Rattle.emtp_pseudo.specs.Pseudos.{next_history_current, newest, present};
 ghost use Rattle.emtp_pseudo.specs.held.Pseudos.{IsPseudoAt, Moves, StandsAt, StandsFor, AreHeldAtRest};
@@ -99,6 +99,16 @@ impl<'a> Pseudos<'a> {
         ensures { (past : List Moment) → StandsAt self.now branch past → result ≡ (newest past).state.segment }
     {
         self.held[branch].moment.state.segment
+    }
+
+    /// What the last record keeps of a branch: its current in nA, the segment that the next step is on, its flux in pWb.
+    pub fn state(&self, branch: usize) -> PseudoState
+        requires { (x : Pseudo) × IsPseudoAt self.now.case branch x }
+        ensures value { (past : List Moment) → StandsAt self.now branch past → result ≡ (newest past).state }
+        ensures current { unsigned_abs result.current ≤ LARGEST_VALUE }
+        ensures flux { unsigned_abs result.flux ≤ LARGEST_VALUE }
+    {
+        self.held[branch].moment.state
     }
 }
 

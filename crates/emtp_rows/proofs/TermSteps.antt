@@ -1,7 +1,8 @@
 -- One term after another.
-use Rattle.std.proofs.Common.{◌≡◌, ◌≢◌, ◌∙◌, sym, ap, ℕ, ◌+◌, ◌<◌, ◌≤◌, ◌==◌, ℤ, pos, ◌+ℤ◌, List, [], ◌∷◌, ◌++◌, length, length-append, slice_get, get_or, Some, true, false, if◌then◌else◌, refl, inl, inr, arith}
+use Rattle.std.proofs.Common.{◌≡◌, ◌≢◌, ◌∙◌, sym, ap, ℕ, ◌+◌, ◌<◌, ◌≤◌, ◌==◌, ℤ, pos, ◌+ℤ◌, List, [], ◌∷◌, ◌++◌, length, length-append, slice_get, slice_index_or, slice_set, get_or, Option, Some, None, true, false, if◌then◌else◌, refl, inl, inr, arith}
 use Rattle.std.proofs.lemmas.Bool.{cases_eq, cases_Bool}
 use Rattle.std.proofs.lemmas.Int.{ints}
+use Rattle.std.proofs.lemmas.List.{get_or-set_same, get_or-set_other}
 use Rattle.std.proofs.lemmas.List.Elements.{All-push, All-nil}
 use Rattle.std.proofs.lemmas.Option.{slice_get-get_or}
 use Rattle.emtp_case.specs.Branch.{from_of, to_of}
@@ -12,7 +13,7 @@ use Rattle.emtp_rows.specs.declared.term.Amount.{Amount}
 use Rattle.emtp_rows.specs.declared.term.Term.{Term}
 use Rattle.emtp_case.specs.Sums.{total}
 use Rattle.emtp_rows.specs.Nodal.{node_at}
-use Rattle.emtp_rows.specs.held.Terms.{NodeTerm, amount_of, in_node, end_terms, terms_by, terms_at, Adds, HasTerms, IsTerm, AmountIsThere, in_column}
+use Rattle.emtp_rows.specs.held.Terms.{NodeTerm, amount_of, in_node, end_terms, terms_by, terms_at, Adds, AddsEnd, HasTerms, IsTerm, AmountIsThere, in_column}
 use Rattle.emtp_case.proofs.Sums.{total-append, sum_below-more}
 use Rattle.emtp_case.proofs.RowsOfNodes.{IsRowOf, is_number, isnt_number, node_low}
 
@@ -112,14 +113,15 @@ terms_zero case n terms none = record {
   exist = rw none (All-nil (IsTerm (length case.nodes) (length case.branches) (length case.trios)));
 }
 
-few_at : (case : Parts) (n b : ℕ) (x : Branch) → slice_get case.branches b ≡ Some x → length (terms_at case n b) ≤ 3
-few_at case n b x is = rw is (few_in case n b x)
+few_at : (case : Parts) (n b : ℕ) (x : Option Branch) → length (terms_by case n b x) ≤ 3
+few_at case n b None = omega arith
+few_at case n b (Some x) = few_in case n b x
 
 -- one branch more
-pub terms_more : (case : Parts) (n count : ℕ) (x : Branch) (old new : List Term) → slice_get case.branches count ≡ Some x → HasTerms case n count old → Adds case (terms_at case n count) old new → HasTerms case n (count + 1) new
-terms_more case n count x old new is had adds = record {
+pub terms_more : (case : Parts) (n count : ℕ) (old new : List Term) → HasTerms case n count old → Adds case (terms_at case n count) old new → HasTerms case n (count + 1) new
+terms_more case n count old new had adds = record {
   sums = λ own coupling j below. omega (arith, ints, adds.sums own coupling j below, had.sums own coupling j below, sum_below-more count (λ b. total (in_node own coupling (node_at case j)) (terms_at case n b)));
-  few = omega (arith, adds.few, had.few, few_at case n count x is);
+  few = omega (arith, adds.few, had.few, few_at case n count (slice_get case.branches count));
   exist = adds.exist had.exist;
 }
 
@@ -142,3 +144,60 @@ pub adds_neither : (case : Parts) (n b : ℕ) (x : Branch) (ends : ℕ × ℕ) (
 adds_neither case n b x ends terms is are off none =
     let e = terms_none case n b x is (λ same. off (ap (λ (e : ℕ × ℕ). e.0) are ∙ same)) (λ same. none (ap (λ (e : ℕ × ℕ). e.1) are ∙ same)) in
     rw e (adds_none case terms)
+
+-- ---- all rows
+
+-- each row holds the terms of the first `count` branches in the current equation of its node
+abbrev pub HaveTerms : Parts → ℕ → List (List Term) → Type 0
+HaveTerms case count rows = (i : ℕ) → i < length rows → HasTerms case (node_at case i) count (slice_index_or rows i [])
+
+pub rows_zero : (case : Parts) (rows : List (List Term)) → ((i : ℕ) → slice_index_or rows i [] ≡ []) → HaveTerms case 0 rows
+rows_zero case rows none = λ i below. terms_zero case (node_at case i) (slice_index_or rows i []) (none i)
+
+pub rows_more : (case : Parts) (count : ℕ) (old new : List (List Term)) → length new ≡ length old → HaveTerms case count old
+    → ((i : ℕ) → i < length old → Adds case (terms_at case (node_at case i) count) (slice_index_or old i []) (slice_index_or new i []))
+    → HaveTerms case (count + 1) new
+rows_more case count old new same had adds = λ i below. terms_more case (node_at case i) count (slice_index_or old i []) (slice_index_or new i []) (had i (omega arith)) (adds i (omega arith))
+
+-- the terms of both ends of a branch
+pub ends_added : (case : Parts) (b : ℕ) (x : Branch) (old mid new : List (List Term)) → slice_get case.branches b ≡ Some x → length mid ≡ length old → to_of x ≢ from_of x
+    → AddsEnd case (from_of x) (end_terms case b false x) old mid → AddsEnd case (to_of x) (end_terms case b true x) mid new
+    → (i : ℕ) → i < length old → Adds case (terms_at case (node_at case i) b) (slice_index_or old i []) (slice_index_or new i [])
+ends_added case b x old mid new is same apart first second i below = elim (cases_eq (node_at case i) (from_of x)) [
+  | inl here ↦
+      let off : node_at case i ≢ to_of x = λ e. apart (sym e ∙ here) in
+      rw (terms_first case (node_at case i) b x is (sym here), second.others i (omega arith) off) (first.here i below here)
+  | inr off ↦ elim (cases_eq (node_at case i) (to_of x)) [
+    | inl here ↦
+        rw (terms_second case (node_at case i) b x is (λ e. off (sym e)) (sym here), ← first.others i below off) (second.here i (omega arith) here)
+    | inr none ↦
+        rw (terms_none case (node_at case i) b x is (λ e. off (sym e)) (λ e. none (sym e)), second.others i (omega arith) none, first.others i below off) (adds_none case (slice_index_or old i []))
+  ]
+]
+
+-- those of one whose ends are the same node
+pub end_added : (case : Parts) (b : ℕ) (x : Branch) (old new : List (List Term)) → slice_get case.branches b ≡ Some x → to_of x ≡ from_of x
+    → AddsEnd case (from_of x) (end_terms case b false x) old new
+    → (i : ℕ) → i < length old → Adds case (terms_at case (node_at case i) b) (slice_index_or old i []) (slice_index_or new i [])
+end_added case b x old new is both first i below = elim (cases_eq (node_at case i) (from_of x)) [
+  | inl here ↦ rw (terms_first case (node_at case i) b x is (sym here)) (first.here i below here)
+  | inr off ↦
+      rw (terms_none case (node_at case i) b x is (λ e. off (sym e)) (λ e. off (sym e ∙ both)), first.others i below off) (adds_none case (slice_index_or old i []))
+]
+
+-- ground has no row
+pub ground_added : (case : Parts) (more : List NodeTerm) (rows : List (List Term)) → length rows ≡ length case.nodes → AddsEnd case 0 more rows rows
+ground_added case more rows same = record {
+  here = λ i below is. absurd (omega (arith, is, node_low case i (omega arith)));
+  others = λ i below off. refl;
+}
+
+-- the row of a node is put
+pub row_added : (case : Parts) (n row : ℕ) (more : List NodeTerm) (old : List (List Term)) (terms : List Term) → length old ≡ length case.nodes → IsRowOf case n row
+    → Adds case more (slice_index_or old row []) terms → AddsEnd case n more old (slice_set old row terms)
+row_added case n row more old terms same is adds =
+    let inside : row < length old = omega (arith, is.within, same) in
+    record {
+      here = λ i below e. rw (is.only i (omega arith) e, get_or-set_same old row terms [] inside) adds;
+      others = λ i below off. let other : i ≢ row = λ e. off (ap (node_at case) e ∙ is.there) in rw get_or-set_other refl;
+    }

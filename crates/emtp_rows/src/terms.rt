@@ -1,20 +1,20 @@
 //! Which terms the branches bring into the rows.
 
-ghost use Rattle.std.specs.Prelude.{◌≡◌, ◌<◌, ◌≤◌, ◌∷◌, [], length, drop, map, slice_get, slice_index_or, Some, IfOk, OnOk};
+ghost use Rattle.std.specs.Prelude.{◌≡◌, ℕ, ◌<◌, ◌≤◌, ◌∷◌, [], length, drop, map, slice_get, slice_index_or, Some, IfOk, OnOk};
 ghost use Rattle.emtp_case.specs.Branch.{first_of_trio};
 ghost use Rattle.emtp_case.specs.held.Branch.{IsBranch};
 ghost use Rattle.emtp_case.specs.RowOrder.{order_of};
 ghost use Rattle.emtp_case.specs.declared.branch.Branch.TheVariants.{Phase as OfPhase};
 ghost use Rattle.emtp_case.specs.held.Sizes.{sizes_of};
-ghost use Rattle.emtp_rows.specs.Nodal.{end_node, phase_node};
-ghost use Rattle.emtp_rows.specs.held.Terms.{Adds, HasTerms, HasAllTerms, AmountIsThere, end_rows, end_terms, terms_at};
+ghost use Rattle.emtp_rows.specs.Nodal.{end_node, node_at, phase_node};
+ghost use Rattle.emtp_rows.specs.held.Terms.{Adds, AddsEnd, HasAllTerms, AmountIsThere, end_rows, end_terms, terms_at};
 ghost use Rattle.emtp_rows.specs.held.Touched.{row_at};
 
 use crate::term::{Amount, Term};
 use emtp_case::{Branch, Case, Items, Phase, RowOrder, Trio};
 use std::alloc::{AllocError, Global};
 
-/// The terms of each row.
+/// The terms of each row, from one pass over the branches.
 pub(crate) fn terms_of_rows(
     alloc: Global,
     case: &Case,
@@ -24,58 +24,52 @@ pub(crate) fn terms_of_rows(
     ensures count { IfOk result (λ rows. length rows.items ≡ length case.now.parts.nodes) }
     ensures terms { IfOk result (λ rows. HasAllTerms case.now.parts rows.items) }
 {
-    let mut rows = Vec::new(alloc);
-    for row in 0..case.parts.nodes.len() {
-        let terms = terms_of_node(alloc, case, order, order.node_at(row))?;
-        rows.push(Items::from_vec(terms))?;
+    let mut rows = no_terms(alloc, case.parts.nodes.len())?;
+    for at in 0..case.parts.branches.len() {
+        add_branch(&mut rows, case, order, at)?;
     }
     Ok(rows)
 }
 
-/// The terms of all branches in the current equation of a node.
-fn terms_of_node(
-    alloc: Global,
-    case: &Case,
-    order: &RowOrder,
-    node: u32,
-) -> Result<Vec<Term>, AllocError>
-    requires order { order.now ≡ order_of case.now.parts }
-    requires node { node ≤ length case.now.parts.nodes }
-    ensures { IfOk result (λ terms. HasTerms case.now.parts node (length case.now.parts.branches) terms.items) }
+/// So many rows without a term.
+fn no_terms(alloc: Global, count: usize) -> Result<Vec<Items<Term>>, AllocError>
+    ensures count { IfOk result (λ rows. length rows.items ≡ count) }
+    ensures none { IfOk result (λ rows. (i : ℕ) → slice_index_or rows.items i [] ≡ []) }
 {
-    let mut terms = Vec::new(alloc);
-    for at in 0..case.parts.branches.len() {
-        add_branch(&mut terms, case, order, node, at)?;
+    let mut rows = Vec::new(alloc);
+    for _ in 0..count {
+        rows.push(Items::new(alloc))?;
     }
-    Ok(terms)
+    Ok(rows)
 }
 
-/// Adds the terms of one branch in the current equation of a node.
+/// Adds the terms of one branch in the current equations of its two nodes.
 fn add_branch(
-    terms: &mut Vec<Term>,
+    rows: &mut [Items<Term>],
     case: &Case,
     order: &RowOrder,
-    node: u32,
     at: usize,
 ) -> Result<(), AllocError>
     requires order { order.now ≡ order_of case.now.parts }
-    requires node { node ≤ length case.now.parts.nodes }
     requires there { at < length case.now.parts.branches }
-    ensures { OnOk result (Adds case.now.parts (terms_at case.now.parts node at) terms.old.items terms.new.items) }
+    requires count { length rows.old ≡ length case.now.parts.nodes }
+    ensures count { length rows.new ≡ length rows.old }
+    ensures adds { OnOk result ((i : ℕ) → i < length rows.old
+        → Adds case.now.parts (terms_at case.now.parts (node_at case.now.parts i) at)
+        (slice_index_or rows.old i []) (slice_index_or rows.new i [])) }
 {
     let branch = &case.parts.branches.as_slice()[at];
     let (from, to) = branch.ends();
-    if from == node {
-        add_end(terms, case, order, at, false, branch)?;
-    } else if to == node {
-        add_end(terms, case, order, at, true, branch)?;
+    add_in_row(rows, case, order, at, false, branch)?;
+    if to == from {
+        return Ok(());
     }
-    Ok(())
+    add_in_row(rows, case, order, at, true, branch)
 }
 
-/// Adds the terms of one end of a branch.
-fn add_end(
-    terms: &mut Vec<Term>,
+/// Adds the terms of one end of a branch in the row of its node; ground has no row.
+fn add_in_row(
+    rows: &mut [Items<Term>],
     case: &Case,
     order: &RowOrder,
     at: usize,
@@ -85,7 +79,32 @@ fn add_end(
     requires order { order.now ≡ order_of case.now.parts }
     requires there { slice_get case.now.parts.branches at ≡ Some branch.now }
     requires fits { IsBranch case.now.parts.run (sizes_of case.now.parts) case.now.parts.points branch.now }
-    ensures { OnOk result (Adds case.now.parts (end_terms case.now.parts at second branch.now) terms.old.items terms.new.items) }
+    requires count { length rows.old ≡ length case.now.parts.nodes }
+    ensures count { length rows.new ≡ length rows.old }
+    ensures adds { OnOk result (AddsEnd case.now.parts (end_node second branch.now) (end_terms case.now.parts at second branch.now)
+        rows.old rows.new) }
+{
+    let node = end_node(second, branch);
+    if node == 0 {
+        return Ok(());
+    }
+    let row = order.row_of(node);
+    add_end(&mut rows[row], case, order, at, second, branch)
+}
+
+/// Adds the terms of one end of a branch.
+fn add_end(
+    terms: &mut Items<Term>,
+    case: &Case,
+    order: &RowOrder,
+    at: usize,
+    second: bool,
+    branch: &Branch,
+) -> Result<(), AllocError>
+    requires order { order.now ≡ order_of case.now.parts }
+    requires there { slice_get case.now.parts.branches at ≡ Some branch.now }
+    requires fits { IsBranch case.now.parts.run (sizes_of case.now.parts) case.now.parts.points branch.now }
+    ensures { OnOk result (Adds case.now.parts (end_terms case.now.parts at second branch.now) terms.old terms.new) }
 {
     let node = end_node(second, branch);
     let b = at as u32;
@@ -107,7 +126,7 @@ fn add_end(
 
 /// Adds the terms of the two other phases of a three-phase line, at one of its ends.
 fn add_phases(
-    terms: &mut Vec<Term>,
+    terms: &mut Items<Term>,
     case: &Case,
     order: &RowOrder,
     second: bool,
@@ -117,7 +136,7 @@ fn add_phases(
     requires trio { phase.now.trio < length case.now.parts.trios }
     requires phase { phase.now.phase < 3 }
     ensures { OnOk result (Adds case.now.parts (drop 1 (end_terms case.now.parts 0 second (OfPhase phase.now)))
-        terms.old.items terms.new.items) }
+        terms.old terms.new) }
 {
     let coupling = Amount::Mutual(phase.trio);
     let next = phase_node(case, second, phase.trio, (phase.phase + 1) % 3);
@@ -165,7 +184,7 @@ fn end_node(second: bool, branch: &Branch) -> u32
 
 /// Adds a number in the column of a node; ground has no column.
 fn add_term(
-    terms: &mut Vec<Term>,
+    terms: &mut Items<Term>,
     case: &Case,
     order: &RowOrder,
     node: u32,
@@ -174,7 +193,7 @@ fn add_term(
     requires order { order.now ≡ order_of case.now.parts }
     requires node { node ≤ length case.now.parts.nodes }
     requires amount { AmountIsThere (length case.now.parts.branches) (length case.now.parts.trios) amount }
-    ensures { OnOk result (Adds case.now.parts (record { node = node; amount = amount } ∷ []) terms.old.items terms.new.items) }
+    ensures { OnOk result (Adds case.now.parts (record { node = node; amount = amount } ∷ []) terms.old terms.new) }
 {
     if node != 0 {
         let column = order.row_of(node) as u32;

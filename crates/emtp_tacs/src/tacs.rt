@@ -54,7 +54,7 @@ impl<'a> Model for Tacs<'a> {
 }
 
 impl<'a> Tacs<'a> {
-    /// The control of record 0, in which all is at rest. No later call takes memory.
+    /// The control of record 0, in which all is at rest. No later call has an answer for want of memory.
     ///
     /// # Errors
     ///

@@ -23,9 +23,9 @@ use Rattle.emtp_warnings.specs.ColumnWarnings.{column_warnings}
 use Rattle.emtp_warnings.specs.Finding.{of_columns}
 use Rattle.emtp_warnings.specs.RecordWarnings.{record_warnings}
 use Rattle.emtp_warnings.specs.Warnings.{line_warnings}
-use Rattle.emtp_warnings.specs.declared.finding.Finding.TheVariants.{AfterEnd, AskedTwice, EarlyCosine, LoneNode, NeverActs, NoFrequency, NodeZero, NotRead, NumbersTouch, OpensFirst, ShortTravel}
+use Rattle.emtp_warnings.specs.declared.finding.Finding.TheVariants.{AfterEnd, AskedTwice, EarlyCosine, LateName, LoneNode, NeverActs, NoFrequency, NodeZero, NotRead, NumbersTouch, OpensFirst, ShortTravel}
 use Rattle.emtp_warnings.specs.declared.finding.Spot.TheVariants.{Channel, Line}
-use Rattle.emtp_warnings.specs.declared.rulers.TheConstants.{COPY, FIRST_RUN, SERIES, TIME_SWITCH}
+use Rattle.emtp_warnings.specs.declared.rulers.TheConstants.{COPY, FIRST_RUN, NAMES, SERIES, TIME_SWITCH, VALVE}
 use Rattle.emtp_walk.specs.declared.kind.Kind.TheVariants.{Comment}
 
 -- a flashover voltage, which ATP has in columns 45 to 54 of a switch
@@ -36,13 +36,32 @@ flashover = refl
 touching : column_warnings SERIES.now 12 (codes "  SRC   MID                1.5000.25") ≡ of_columns 12 32 33 (NumbersTouch 27 38) ∷ []
 touching = refl
 
--- each number ends with its field, and the first one with its point
-typed_so : column_warnings SERIES.now 12 (codes "  SRC   MID                 600.2.05E5") ≡ []
+-- each number ends with its field, and the first one with its point: 600.2 and .05E5 would stand there just so
+typed_so : column_warnings SERIES.now 12 (codes "  SRC   MID                 600.2.05E5") ≡ of_columns 12 32 33 (NumbersTouch 27 38) ∷ []
 typed_so = refl
 
 -- a card as it should be
 right_card : column_warnings SERIES.now 12 (codes "  SRC   MID                  1.0  10.0                                         1") ≡ []
 right_card = refl
+
+-- a valve from ground to Y, its name a column too far to the left, and as it was meant
+turned : column_warnings VALVE.now 30 (codes "11     Y                                                        FIREN") ≡ of_columns 30 3 8 LateName ∷ []
+unfolding trimmed
+turned = refl
+
+from_ground : column_warnings VALVE.now 30 (codes "11      Y                                                       FIREN") ≡ []
+from_ground = refl
+
+-- a name that fills its field, one that isn't beside a blank field, and a name of a list
+whole_name : column_warnings SERIES.now 9 (codes "  BUS12A                     1.0") ≡ []
+whole_name = refl
+
+between_two : column_warnings SERIES.now 9 (codes "   BUS12MID                  1.0") ≡ []
+unfolding trimmed
+between_two = refl
+
+of_a_list : column_warnings NAMES.now 40 (codes "   BUS12") ≡ []
+of_a_list = refl
 
 -- a branch that takes the values of another has none of its own
 copied : column_warnings COPY.now 13 (codes "  B     C     SRC   MID      2.0   5.0") ≡ of_columns 13 30 32 NotRead ∷ of_columns 13 36 38 NotRead ∷ []

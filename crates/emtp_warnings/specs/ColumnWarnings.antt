@@ -1,10 +1,10 @@
 -- The warnings of a line's columns, under the ruler of its card.
-use Rattle.std.specs.Prelude.{ℕ, zero, suc, ◌+◌, ◌-◌, ◌==◌, count_by, length, max, min, nat_le, position, take, drop, Bool, not, ◌&&◌, List, [], ◌∷◌, ◌++◌, Option, Some, None, if◌then◌else◌}
-use Rattle.std.specs.Char.{is_ascii_digit}
-use Rattle.emtp_card.specs.Field.{byte_in}
+use Rattle.std.specs.Prelude.{ℕ, zero, suc, ◌+◌, ◌-◌, ◌==◌, length, max, min, position, take, drop, Bool, not, ◌&&◌, List, [], ◌∷◌, ◌++◌, Option, Some, None, if◌then◌else◌}
+use Rattle.std.specs.Char.{is_ascii_digit, is_ascii_lowercase}
+use Rattle.emtp_card.specs.Field.{byte_in, trimmed}
 use Rattle.emtp_card.specs.Lines.{is_blank}
 use Rattle.emtp_warnings.specs.Finding.{found, of_columns}
-use Rattle.emtp_warnings.specs.declared.finding.Finding.TheVariants.{NotRead, NumbersTouch}
+use Rattle.emtp_warnings.specs.declared.finding.Finding.TheVariants.{LateName, NotRead, NumbersTouch}
 use Rattle.emtp_warnings.specs.declared.finding.Warning.{Warning}
 
 -- a column that isn't blank and that no field has
@@ -51,20 +51,26 @@ last_by ruler column None = max (length ruler) column
 abbrev pub last_of : List ℕ → ℕ → ℕ
 last_of ruler column = last_by ruler column (other_behind ruler column (byte_in ruler column))
 
--- the first number ends with its point, and the second one fills its field: so a line is typed where each number ends with its field
-abbrev pub is_typed_so : List ℕ → ℕ → ℕ → Bool
-is_typed_so line column last =
-    byte_in line column == 46 && nat_le last (length line)
-    && count_by (λ byte. byte == 32) (take (last + 1 - (column + 1)) (drop (column + 1 - 1) line)) == 0
+-- the end of a name's field and the beginning of the next one's, where it matters in which of them a name stands
+abbrev pub is_name_border : ℕ → ℕ → Bool
+is_name_border mark next = is_ascii_lowercase mark && (is_ascii_lowercase next && not (mark == next))
+
+-- what stands in columns, without the outer blanks
+abbrev pub within : List ℕ → ℕ → ℕ → List ℕ
+within line first last = trimmed (take (last + 1 - first) (drop (first - 1) line))
+
+-- a name that ends with its field and doesn't begin with it, beside the blank field of another name, which ends with a column
+abbrev pub is_late : List ℕ → List ℕ → ℕ → ℕ → ℕ → Bool
+is_late ruler line column first last =
+    is_name_border (byte_in ruler column) (byte_in ruler (column + 1))
+    && (is_blank (byte_in line first) && (not (is_blank (byte_in line column)) && length (within line (column + 1) last) == 0))
 
 -- what a column warns of, where the unread columns in a row begin that may end with it, and where its field does: the numbers
--- of two fields that touch, and all unread columns in a row
+-- of two fields that touch, a name at the end of its field, and all unread columns in a row
 abbrev pub at_column : List ℕ → ℕ → List ℕ → ℕ → ℕ → ℕ → List Warning
 at_column ruler number line column run first = found
-    ((
-      touches ruler line column && not (is_typed_so line column (last_of ruler (column + 1))),
-      of_columns number column (column + 1) (NumbersTouch first (last_of ruler (column + 1))),
-    )
+    ((touches ruler line column, of_columns number column (column + 1) (NumbersTouch first (last_of ruler (column + 1))))
+    ∷ (is_late ruler line column first (last_of ruler (column + 1)), of_columns number first column LateName)
     ∷ (is_unread ruler line column && not (is_unread ruler line (column + 1)), of_columns number run column NotRead) ∷ [])
 
 -- what the first columns warn of

@@ -1,5 +1,6 @@
 -- Which columns of a line are read: the ruler of its card.
-use Rattle.std.specs.Prelude.{ℕ, ◌+◌, ◌*◌, ◌==◌, min, length, take, Bool, true, false, not, ◌&&◌, List, Option, None, Result, Ok, Err, if◌then◌else◌}
+use Rattle.std.specs.Prelude.{ℕ, ◌+◌, ◌*◌, ◌==◌, min, length, take, Bool, true, false, not, ◌&&◌, List, [], Option, None, Result, Ok, Err, if◌then◌else◌}
+use Rattle.std.specs.Str.{bytes_eq}
 use Rattle.emtp_card.specs.Field.{field_of}
 use Rattle.emtp_card.specs.Lines.{is_section_end}
 use Rattle.emtp_card.specs.declared.reason.Bad.{Bad}
@@ -128,3 +129,19 @@ ruler_of number line read.Switch = switch_ruler (switches.is_measuring line) (sw
 ruler_of number line read.Source = source_ruler (sources.type_field line)
 ruler_of number line read.Output = output_ruler (output_card number line)
 ruler_of number line other = FREE.now
+
+-- ---- the fields of a line
+
+-- the ruler of the type of a card that has the most fields
+abbrev pub fullest_ruler : Kind → List ℕ
+fullest_ruler read.TacsSource = TACS_COSINE.now
+fullest_ruler (read.Branch wide) = series_ruler wide
+fullest_ruler read.Switch = TIME_SWITCH.now
+fullest_ruler read.Source = COSINE.now
+fullest_ruler read.Output = NAMES.now
+fullest_ruler other = []
+
+-- where a card's own columns don't say which ruler it has, as one of no known type, it is shown as the fullest one
+abbrev pub field_ruler : ℕ → List ℕ → Kind → List ℕ
+field_ruler number line kind =
+    if bytes_eq (ruler_of number line kind) FREE.now then fullest_ruler kind else ruler_of number line kind

@@ -6,15 +6,16 @@ use Rattle.emtp_fix.specs.Decimal.{fixed_text}
 use Rattle.emtp_walk.specs.declared.kind.Kind.{Kind}
 use Rattle.emtp_walk.specs.declared.kind.LineReading.{LineReading}
 use Rattle.emtp_warnings.specs.declared.finding.Finding.{Finding}
-use Rattle.emtp_warnings.specs.declared.finding.Finding.TheVariants.{ActsAsWire, AfterEnd, AskedTwice, BareArrester, CaseAlone, Drifts, EarlyCosine, LateTravel, LoneNode, NeverActs, NoFrequency, NodeZero, NotRead, NumbersTouch, OpensFirst, OtherCapacitance, OtherResistance, ShortTravel, SideBySide, SmallCapacitance}
+use Rattle.emtp_warnings.specs.declared.finding.Finding.TheVariants.{ActsAsWire, AfterEnd, AskedTwice, BareArrester, CaseAlone, Drifts, EarlyCosine, LateName, LateTravel, LoneNode, NeverActs, NoFrequency, NodeZero, NotRead, NumbersTouch, OpensFirst, OtherCapacitance, OtherResistance, ShortTravel, SideBySide, SmallCapacitance}
 use Rattle.emtp_warnings.specs.declared.finding.Spot.{Spot}
 use Rattle.emtp_warnings.specs.declared.finding.Spot.TheVariants.{Channel, Columns, Line}
 use Rattle.emtp_warnings.specs.declared.finding.Warning.{Warning}
-use Rattle.emtp_warnings.specs.declared.words.TheConstants.{ACTING_CAPACITANCE, ACTS_AS_WIRE, AFTER_END, ASKED_TWICE, BARE_ARRESTER, CASE_ALONE, CLEAN, DRIFT, DRIFTS, EARLY_COSINE, LATE_TRAVEL, LONE_NODE, MICROFARAD, MILLIHENRY, NEVER_ACTS, NODE_ZERO, NOT_READ, NO_FREQUENCY, NO_UNIT, NUMBERS_TOUCH, OHM, OPENS_FIRST, OTHER_CAPACITANCE, OTHER_RESISTANCE, SERIES_RESISTANCE, SHORT_TRAVEL, SIDE_BY_SIDE, SMALL_CAPACITANCE, WHOLE_RESISTANCE}
+use Rattle.emtp_warnings.specs.declared.words.TheConstants.{ACTING_CAPACITANCE, ACTS_AS_WIRE, AFTER_END, ASKED_TWICE, BARE_ARRESTER, CASE_ALONE, CLEAN, DRIFT, DRIFTS, EARLY_COSINE, LATE_NAME, LATE_TRAVEL, LONE_NODE, MICROFARAD, MILLIHENRY, NEVER_ACTS, NODE_ZERO, NOT_READ, NO_FREQUENCY, NO_UNIT, NUMBERS_TOUCH, OHM, OPENS_FIRST, OTHER_CAPACITANCE, OTHER_RESISTANCE, SERIES_RESISTANCE, SHORT_TRAVEL, SIDE_BY_SIDE, SMALL_CAPACITANCE, WHOLE_RESISTANCE}
 
 abbrev pub finding_text : Finding → List ℕ
 finding_text NotRead = NOT_READ.now
 finding_text (NumbersTouch first last) = NUMBERS_TOUCH.now
+finding_text LateName = LATE_NAME.now
 finding_text LoneNode = LONE_NODE.now
 finding_text NodeZero = NODE_ZERO.now
 finding_text CaseAlone = CASE_ALONE.now

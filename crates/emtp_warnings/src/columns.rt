@@ -1,11 +1,11 @@
 //! The warnings of a line's columns, under the ruler of its card.
 
-ghost use Rattle.std.specs.Prelude.{◌≡◌, ◌==◌, ◌+◌, ◌<◌, ◌≤◌, IfSome, OnOk, count_by, length, not, position};
+ghost use Rattle.std.specs.Prelude.{◌≡◌, ◌==◌, ◌+◌, ◌<◌, ◌≤◌, IfSome, OnOk, length, not, position};
 ghost use Rattle.emtp_warnings.specs.AddsTo.{AddsTo};
-ghost use Rattle.emtp_warnings.specs.ColumnWarnings.{at_column, column_warnings, first_with, is_typed_so, is_unread, last_of, other_behind, run_with, touches};
+ghost use Rattle.emtp_warnings.specs.ColumnWarnings.{at_column, column_warnings, first_with, is_late, is_name_border, is_unread, last_of, other_behind, run_with, touches, within};
 
 use crate::finding::{Finding, Warning, add_found, columns_row};
-use emtp_card::{Line, MAX_BYTES, byte_at, columns};
+use emtp_card::{Line, MAX_BYTES, byte_at, columns, trim};
 use std::alloc::AllocError;
 
 /// Adds what the columns of a line warn of.
@@ -38,15 +38,18 @@ fn add_at_column(
 ) -> Result<(), AllocError>
     requires some { 1 ≤ at }
     requires few { at ≤ MAX_BYTES }
+    requires begins { 1 ≤ first }
     ensures { OnOk result (AddsTo out.old.items (at_column ruler.now line.now.number line.now.bytes.now at run first)
         out.new.items) }
 {
     let last = last_of(ruler, at + 1);
-    let touch = touches(ruler, line.bytes, at) && !is_typed_so(line.bytes, at, last);
+    let touch = touches(ruler, line.bytes, at);
+    let late = is_late(ruler, line.bytes, at, first, last);
     let ends = is_unread(ruler, line.bytes, at) && !is_unread(ruler, line.bytes, at + 1);
     let touching = Finding::NumbersTouch { first, last };
     let rows = [
         columns_row(line.number, (at, at + 1), touch, touching),
+        columns_row(line.number, (first, at), late, Finding::LateName),
         columns_row(line.number, (run, at), ends, Finding::NotRead),
     ];
     add_found(out, &rows)
@@ -69,14 +72,16 @@ fn run_with(ruler: &[u8], line: &[u8], column: usize, run: usize) -> usize
 fn first_with(ruler: &[u8], column: usize, first: usize) -> usize
     requires some { 1 ≤ column }
     requires few { column ≤ MAX_BYTES }
-    ensures { result ≡ first_with ruler.now column first }
+    requires begins { 1 ≤ first }
+    ensures value { result ≡ first_with ruler.now column first }
+    ensures begins { 1 ≤ result }
 {
     let goes_on = byte_at(ruler, column + 1) == byte_at(ruler, column);
     if goes_on { first } else { column + 1 }
 }
 
-/// The last column of the field that begins with a column.
-fn last_of(ruler: &[u8], column: usize) -> usize
+/// The last column of the field of a ruler that begins with a column.
+pub fn last_of(ruler: &[u8], column: usize) -> usize
     requires some { 1 ≤ column }
     requires few { column ≤ MAX_BYTES + 1 }
     ensures value { result ≡ last_of ruler.now column }
@@ -104,22 +109,34 @@ fn first_other(marks: &[u8], mark: u8) -> Option<usize>
     marks.iter().position(|next| *next != mark)
 }
 
-/// Whether the first number ends with its point and the second one fills its field, as where each is typed to the end of its
-/// field.
-fn is_typed_so(line: &[u8], column: usize, last: usize) -> bool
+/// Whether a name ends with its field, at a column, and doesn't begin with it, beside the blank field of another name.
+fn is_late(ruler: &[u8], line: &[u8], column: usize, first: usize, last: usize) -> bool
     requires some { 1 ≤ column }
+    requires few { column ≤ MAX_BYTES }
+    requires begins { 1 ≤ first }
     requires order { column + 1 ≤ last }
-    ensures { result ≡ is_typed_so line.now column last }
+    ensures { result ≡ is_late ruler.now line.now column first last }
 {
-    byte_at(line, column) == b'.'
-        && last <= line.len()
-        && blanks_in(columns(line, column + 1, last)) == 0
+    is_name_border(byte_at(ruler, column), byte_at(ruler, column + 1))
+        && byte_at(line, first) == b' '
+        && byte_at(line, column) != b' '
+        && within(line, column + 1, last).is_empty()
 }
 
-fn blanks_in(text: &[u8]) -> usize
-    ensures { result ≡ count_by (λ byte. byte == 32) text.now }
+/// Whether one mark ends a name's field, and the next one begins another's.
+fn is_name_border(mark: u8, next: u8) -> bool
+    ensures { result ≡ is_name_border mark next }
 {
-    text.iter().filter(|byte| **byte == b' ').count()
+    mark.is_ascii_lowercase() && next.is_ascii_lowercase() && mark != next
+}
+
+/// What stands in columns, without the outer blanks.
+fn within(line: &[u8], first: usize, last: usize) -> &[u8]
+    requires some { 1 ≤ first }
+    requires order { first ≤ last }
+    ensures { result.now ≡ within line.now first last }
+{
+    trim(columns(line, first, last))
 }
 
 /// Whether a column isn't blank, and no field has it.

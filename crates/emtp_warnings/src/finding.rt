@@ -36,6 +36,8 @@ pub enum Finding {
         /// The last column of the second one.
         last: usize,
     },
+    /// A name that ends with its field and doesn't begin with it, where the field of the next name is blank.
+    LateName,
     /// A node that no other branch, switch or source has.
     LoneNode,
     /// A node whose name is `0`, which is not ground.

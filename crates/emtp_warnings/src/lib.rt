@@ -35,9 +35,11 @@ mod rulers;
 mod text;
 mod words;
 
+pub use columns::last_of;
 pub use finding::{Finding, Spot, Warning};
 pub use laws::{
     unmarked_columns_of_the_control_dont_matter, unmarked_columns_of_the_network_dont_matter,
 };
 pub use listed::warnings;
+pub use marked::field_ruler;
 pub use text::warnings_text;

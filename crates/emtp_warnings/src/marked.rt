@@ -6,7 +6,7 @@ ghost use Rattle.emtp_netcards.specs.OutputCard.{output_card};
 ghost use Rattle.emtp_netcards.specs.SourceCard as sources;
 ghost use Rattle.emtp_netcards.specs.SwitchCard as switches;
 ghost use Rattle.emtp_taccards.specs.TacsSourceCard.{tacs_source_card};
-ghost use Rattle.emtp_warnings.specs.Marked.{extra_ruler, names_another, output_ruler, ends_points, point_ruler, ruler_of, ruler_of_kind, source_ruler, switch_ruler, tacs_source_ruler};
+ghost use Rattle.emtp_warnings.specs.Marked.{extra_ruler, field_ruler, fullest_ruler, names_another, output_ruler, ends_points, point_ruler, ruler_of, ruler_of_kind, source_ruler, switch_ruler, tacs_source_ruler};
 
 use crate::rulers::{
     ALL_NODES, BLOCK, CONTROLLED, COPY, COSINE, DEVICE, ENDING, FIRST_RUN, FORMULA, FREE, LEVEL,
@@ -21,6 +21,34 @@ use emtp_netcards::{
 };
 use emtp_taccards::tacs_source;
 use emtp_walk::Kind;
+
+/// The ruler for the fields of a line: of a card whose own columns don't say which one it has, as one of no known type, that of
+/// the fullest type; nothing where the line has no fields.
+pub fn field_ruler(line: &Line<'_>, kind: Kind) -> &'static [u8]
+    requires { length line.now.bytes.now ≤ MAX_BYTES }
+    ensures { result.now ≡ field_ruler line.now.number line.now.bytes.now kind }
+{
+    let ruler = ruler_of(line, kind);
+    if ruler == FREE {
+        fullest_ruler(kind)
+    } else {
+        ruler
+    }
+}
+
+/// The ruler of the type of a card that has the most fields.
+fn fullest_ruler(kind: Kind) -> &'static [u8]
+    ensures { result.now ≡ fullest_ruler kind }
+{
+    match kind {
+        Kind::TacsSource => TACS_COSINE,
+        Kind::Branch(wide) => { if wide { WIDE_SERIES } else { SERIES } }
+        Kind::Switch => TIME_SWITCH,
+        Kind::Source => COSINE,
+        Kind::Output => NAMES,
+        _ => b"",
+    }
+}
 
 /// The ruler of a line by as what it is read. The coefficients of powers above the order aren't read.
 pub(crate) fn ruler_of(line: &Line<'_>, kind: Kind) -> &'static [u8]

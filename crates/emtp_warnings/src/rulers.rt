@@ -1,7 +1,8 @@
 //! Which columns of a card are read: one ruler a kind of card, with a mark in each column.
 //!
-//! A run of one mark is a field. A digit marks a field that holds a number, a letter any other field; a blank marks a
-//! column that is not read. Fields side by side have different marks.
+//! A run of one mark is a field. A digit marks a field that holds a number, a letter any other field, a capital one a name of
+//! a list, which may stand in any of its fields; a blank marks a column that is not read. Fields side by side have different
+//! marks.
 
 /// A line whose columns all belong to it, as one that ends a section.
 pub(crate) const FREE: &[u8] =
@@ -83,7 +84,7 @@ pub(crate) const ALL_NODES: &[u8] = b"11";
 
 /// An output card with 13 names.
 pub(crate) const NAMES: &[u8] =
-    b"11aaaaaabbbbbbccccccddddddeeeeeeffffffgggggghhhhhhiiiiiijjjjjjkkkkkkllllllmmmmmm";
+    b"11AAAAAABBBBBBCCCCCCDDDDDDEEEEEEFFFFFFGGGGGGHHHHHHIIIIIIJJJJJJKKKKKKLLLLLLMMMMMM";
 
 /// A block: order, name, five inputs with their signs, gain, limits, named limits.
 pub(crate) const BLOCK: &[u8] =

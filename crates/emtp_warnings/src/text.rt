@@ -6,10 +6,10 @@ ghost use Rattle.emtp_warnings.specs.WarningText.{clean_text, drift_text, findin
 use crate::finding::{Finding, Spot, Warning};
 use crate::words::{
     ACTING_CAPACITANCE, ACTS_AS_WIRE, AFTER_END, ASKED_TWICE, BARE_ARRESTER, CASE_ALONE, CLEAN,
-    DRIFT, DRIFTS, EARLY_COSINE, LATE_TRAVEL, LONE_NODE, MICROFARAD, MILLIHENRY, NEVER_ACTS,
-    NO_FREQUENCY, NO_UNIT, NODE_ZERO, NOT_READ, NUMBERS_TOUCH, OHM, OPENS_FIRST, OTHER_CAPACITANCE,
-    OTHER_RESISTANCE, SERIES_RESISTANCE, SHORT_TRAVEL, SIDE_BY_SIDE, SMALL_CAPACITANCE,
-    WHOLE_RESISTANCE,
+    DRIFT, DRIFTS, EARLY_COSINE, LATE_NAME, LATE_TRAVEL, LONE_NODE, MICROFARAD, MILLIHENRY,
+    NEVER_ACTS, NO_FREQUENCY, NO_UNIT, NODE_ZERO, NOT_READ, NUMBERS_TOUCH, OHM, OPENS_FIRST,
+    OTHER_CAPACITANCE, OTHER_RESISTANCE, SERIES_RESISTANCE, SHORT_TRAVEL, SIDE_BY_SIDE,
+    SMALL_CAPACITANCE, WHOLE_RESISTANCE,
 };
 use emtp_card::{Cards, columns, trim};
 use emtp_causes::field_name;
@@ -224,6 +224,7 @@ fn finding_text(finding: Finding) -> &'static [u8]
     match finding {
         Finding::NotRead => NOT_READ,
         Finding::NumbersTouch { .. } => NUMBERS_TOUCH,
+        Finding::LateName => LATE_NAME,
         Finding::LoneNode => LONE_NODE,
         Finding::NodeZero => NODE_ZERO,
         Finding::CaseAlone => CASE_ALONE,

@@ -6,6 +6,9 @@ pub(crate) const NOT_READ: &[u8] = b"not read";
 /// Two numbers that may be one.
 pub(crate) const NUMBERS_TOUCH: &[u8] = b"two numbers touch";
 
+/// A name that may stand a column too far to the left.
+pub(crate) const LATE_NAME: &[u8] = b"the name may be the next field's, which is blank";
+
 /// A node that nothing else has.
 pub(crate) const LONE_NODE: &[u8] = b"no other branch, switch or source has the node";
 

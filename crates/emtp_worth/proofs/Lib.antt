@@ -3,4 +3,5 @@ mod Ends
 mod Judging
 mod Lines
 mod Listing
+mod Nearing
 mod Worked

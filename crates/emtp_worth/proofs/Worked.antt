@@ -12,6 +12,6 @@ between : due arrester (pos 50500000000) ≡ pos 576000000000000
 unfolding due near near_abs arrester
 between = refl
 
-mirrored : excess arrester (neg_ℤ (pos 50500000000)) (neg_ℤ (pos 577000000000000)) ≡ 1000000000000
+mirrored : excess (due arrester (neg_ℤ (pos 50500000000))) (neg_ℤ (pos 577000000000000)) ≡ 1000000000000
 unfolding due near near_abs arrester
 mirrored = refl

@@ -7,25 +7,29 @@ use Rattle.emtp_case.specs.declared.branch.Pseudo.{Pseudo}
 use Rattle.emtp_case.specs.declared.branch.PseudoState.{PseudoState}
 use Rattle.emtp_case.specs.declared.case.Parts.{Parts}
 use Rattle.emtp_pseudo.specs.Step.{place_of}
-use Rattle.emtp_worth.specs.Characteristic.{excess, is_off}
+use Rattle.emtp_worth.specs.Characteristic.{due, excess, is_off}
 use Rattle.emtp_worth.specs.declared.found.Found.{Found}
 use Rattle.emtp_worth.specs.declared.found.Reading.{Reading}
 
 -- ---- a record
 
--- a branch in a step, at a voltage and in a state
-abbrev pub reading : Bool → ℕ → ℤ → PseudoState → Reading
-reading reactor step v state = record {
+-- a branch in a step, at a voltage and in a state, where its characteristic has this
+abbrev pub reading : Bool → ℕ → ℤ → PseudoState → ℤ → Reading
+reading reactor step v state due = record {
   step = step;
   voltage = v;
   current = state.current;
   value = place_of reactor state.flux v;
+  due = due;
   shown = if reactor then state.current else v;
 }
 
+abbrev pub reading_by : List Point → Pseudo → ℕ → ℤ → PseudoState → Reading
+reading_by points x step v state = reading x.reactor step v state (due points state.current)
+
 -- the same of the record of that step
-abbrev pub reading_in : Pseudo → ℕ → ℕ → StepRecord → Reading
-reading_in x b step r = reading x.reactor step (voltage_at x.from r -ℤ voltage_at x.to r) (pseudo_at b r)
+abbrev pub reading_in : List Point → Pseudo → ℕ → ℕ → StepRecord → Reading
+reading_in points x b step r = reading_by points x step (voltage_at x.from r -ℤ voltage_at x.to r) (pseudo_at b r)
 
 -- ---- what is found
 
@@ -52,10 +56,14 @@ abbrev pub with_excess : List Point → ℕ → Found → Reading → ℕ → Fo
 with_excess points every found r e = if is_off points e then with_off every found r e else with_on found r
 
 unfoldable pub with : List Point → ℕ → Found → Reading → Found
-with points every found r = with_excess points every found r (excess points r.current r.value)
+with points every found r = with_excess points every found r (excess r.due r.value)
+
+-- the record of a step more
+abbrev pub with_record : List Point → ℕ → Pseudo → ℕ → ℕ → StepRecord → Found → Found
+with_record points every x b step r found = with points every found (reading_in points x b step r)
 
 -- all records of a run, newest first
 unfoldable pub found_in : Parts → Pseudo → ℕ → List StepRecord → Found
 found_in case x b [] = nothing
 found_in case x b (r ∷ past) =
-    with (points_of case.points x.first x.count) case.run.every (found_in case x b past) (reading_in x b (length past) r)
+    with_record (points_of case.points x.first x.count) case.run.every x b (length past) r (found_in case x b past)

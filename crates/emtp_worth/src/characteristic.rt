@@ -81,7 +81,7 @@ fn outward(points: &[Point], i: i64) -> i128
 
 /// What the characteristic has at a current: the voltage in nV of a resistor, the flux in pWb of a reactor.
 #[tactic(auto, unfolding(crate::specs::Characteristic::due))]
-pub fn due(points: &[Point], i: i64) -> i128
+pub(crate) fn due(points: &[Point], i: i64) -> i128
     requires points { (reactor : Bool) × (dt : ℤ) × IsCharacteristic reactor dt points.now }
     requires some { 1 ≤ length points.now }
     requires i { unsigned_abs i ≤ 2 * LARGEST_VALUE }
@@ -95,19 +95,17 @@ pub fn due(points: &[Point], i: i64) -> i128
     }
 }
 
-/// How far a voltage or flux lies from what the characteristic has at a current.
-pub fn excess(points: &[Point], i: i64, y: i64) -> u128
-    requires points { (reactor : Bool) × (dt : ℤ) × IsCharacteristic reactor dt points.now }
-    requires some { 1 ≤ length points.now }
-    requires i { unsigned_abs i ≤ 2 * LARGEST_VALUE }
-    ensures value { result ≡ excess points.now i y }
+/// How far a voltage or flux lies from what its characteristic has.
+pub(crate) fn excess(due: i128, y: i64) -> u128
+    requires { unsigned_abs due ≤ 10 ^ 37 }
+    ensures value { result ≡ excess due y }
     ensures bound { result ≤ 10 ^ 38 }
 {
-    (y as i128 - due(points, i)).unsigned_abs()
+    (y as i128 - due).unsigned_abs()
 }
 
 /// Whether a point that lies so far from a characteristic is off it.
-pub fn is_off(points: &[Point], e: u128) -> bool
+pub(crate) fn is_off(points: &[Point], e: u128) -> bool
     requires { 1 ≤ length points.now }
     ensures { result ≡ is_off points.now e }
 {

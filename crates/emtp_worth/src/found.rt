@@ -1,8 +1,6 @@
 //! What is found of a pseudo-nonlinear branch, one step after the other.
 
-ghost use Rattle.std.specs.Prelude.{Bool, ℤ, Some, if◌then◌else◌, ◌≡◌, ◌+◌, ◌<◌, ◌^◌, ◌≤◌, ◌*◌, length, unsigned_abs};
-ghost use Rattle.emtp_case.specs.held.Branch.{IsCharacteristic};
-ghost use Rattle.emtp_fix.specs.declared.limit.TheConstants.{LARGEST_VALUE};
+ghost use Rattle.std.specs.Prelude.{Some, if◌then◌else◌, ◌≡◌, ◌+◌, ◌<◌, ◌^◌, ◌≤◌, length, unsigned_abs};
 ghost use Rattle.emtp_worth.specs.Found.{nothing, with, with_excess, with_off, with_on};
 
 use crate::characteristic::{excess, is_off};
@@ -19,6 +17,8 @@ pub struct Reading {
     pub current: i64,
     /// What the characteristic is over: the voltage in nV of a resistor, the flux in pWb of a reactor.
     pub value: i64,
+    /// What the characteristic has at the current, in the same unit: to 10^37 in magnitude.
+    pub due: i128,
     /// What is false where the point lies off the characteristic, and what a peak of the record shows: the voltage in nV of a
     /// resistor, the current in nA of a reactor.
     pub shown: i64,
@@ -106,15 +106,14 @@ impl Found {
     /// With one record more.
     #[tactic(auto, unfolding(crate::specs::Found::with))]
     pub(crate) fn with(self, points: &[Point], every: u32, r: Reading) -> Found
-        requires points { (reactor : Bool) × (dt : ℤ) × IsCharacteristic reactor dt points.now }
         requires some { 1 ≤ length points.now }
-        requires current { unsigned_abs r.current ≤ 2 * LARGEST_VALUE }
+        requires due { unsigned_abs r.due ≤ 10 ^ 37 }
         requires every { 1 ≤ every }
         requires steps { self.steps < 10 ^ 7 }
         requires samples { self.samples < 10 ^ 7 }
         ensures { result ≡ with points.now every self r }
     {
-        self.with_excess(points, every, r, excess(points, r.current, r.value))
+        self.with_excess(points, every, r, excess(r.due, r.value))
     }
 }
 

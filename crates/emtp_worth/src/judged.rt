@@ -8,6 +8,7 @@ ghost use Rattle.emtp_worth.specs.Found.{reading};
 ghost use Rattle.emtp_worth.specs.Judged.{all_judged, more};
 ghost use Rattle.emtp_worth.specs.held.Run.{IsJudged, before};
 
+use crate::characteristic::due;
 use crate::found::{Found, Reading};
 use crate::run::Run;
 use emtp_case::{Branch, Case, Point, Pseudo, PseudoState};
@@ -34,14 +35,16 @@ fn points<'a>(case: &'a Case, card: &Pseudo) -> &'a [Point]
     &case.parts.points.as_slice()[first..first + card.count as usize]
 }
 
-fn reading(reactor: bool, step: u32, voltage: i64, state: PseudoState) -> Reading
-    ensures { result ≡ reading reactor step voltage state }
+/// A branch in a step, at a voltage and in a state, where its characteristic has `due`.
+fn reading(reactor: bool, step: u32, voltage: i64, state: PseudoState, due: i128) -> Reading
+    ensures { result ≡ reading reactor step voltage state due }
 {
     Reading {
         step,
         voltage,
         current: state.current,
         value: if reactor { state.flux } else { voltage },
+        due,
         shown: if reactor { state.current } else { voltage },
     }
 }
@@ -56,7 +59,9 @@ fn look<R: Run>(case: &Case, run: &R, step: u32, j: Judged) -> Judged
 {
     let points = points(case, &j.card);
     let voltage = run.voltage(j.card.from) - run.voltage(j.card.to);
-    let reading = reading(j.card.reactor, step, voltage, run.pseudo(j.branch));
+    let state = run.pseudo(j.branch);
+    let due = due(points, state.current);
+    let reading = reading(j.card.reactor, step, voltage, state, due);
     Judged {
         found: j.found.with(points, case.parts.run.every, reading),
         ..j
@@ -94,7 +99,7 @@ pub fn listed(alloc: Global, case: &Case) -> Result<Vec<Judged>, AllocError>
     Ok(judged)
 }
 
-/// What the records of a run say of the pseudo-nonlinear branches of its case.
+/// Makes the steps of a run, and says what its records say of the pseudo-nonlinear branches of its case.
 ///
 /// # Errors
 ///
@@ -103,7 +108,8 @@ pub fn judge<R: Run>(alloc: Global, case: &Case, run: &mut R) -> Result<Vec<Judg
     requires same { R.case run.old ≡ case.now.parts }
     requires live { IsTrue (R.live run.old) }
     requires rest { length (R.records run.old) ≡ 1 }
-    ensures { IfOk result (λ v. v.items ≡ all_judged case.now.parts (R.whole run.old)) }
+    ensures case { R.case run.new ≡ R.case run.old }
+    ensures judged { IfOk result (λ v. v.items ≡ all_judged case.now.parts (R.whole run.old)) }
 {
     let mut judged = listed(alloc, case)?;
     look_all(case, run, &mut judged);

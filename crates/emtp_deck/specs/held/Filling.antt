@@ -33,7 +33,7 @@ pub record IsFilling (f : Filling) : Type 0 where
   pub there : AreThere (sizes_of f.draft.parts) f.asked
 
 -- a call that takes a card answers as its definition does, and makes what that gives
-abbrev pub Fills : Result (Unit {0}) Refused → Result Made Bad → Made → Type 0
-Fills (Ok done) defined made = defined ≡ Ok made
-Fills (Err (OfBad bad)) defined made = defined ≡ Err bad
-Fills (Err NoMemory) defined made = Unit {0}
+abbrev pub Makes : Result (Unit {0}) Refused → Result Made Bad → Made → Type 0
+Makes (Ok done) defined made = defined ≡ Ok made
+Makes (Err (OfBad bad)) defined made = defined ≡ Err bad
+Makes (Err NoMemory) defined made = Unit {0}

@@ -4,8 +4,8 @@ use Rattle.emtp_case.specs.held.EndNames.{IsNode}
 use Rattle.emtp_case.specs.declared.case.Parts.{Parts}
 use Rattle.emtp_phasor.specs.Steady.{steady}
 use Rattle.emtp_phasor.specs.declared.ending.Ending.{Ending}
-use Rattle.emtp_phasor.specs.declared.resting.Stop.{Stop}
-use Rattle.emtp_phasor.specs.declared.resting.Stop.TheVariants.{Ended, NoMemory}
+use Rattle.emtp_phasor.specs.declared.resting_network.Stop.{Stop}
+use Rattle.emtp_phasor.specs.declared.resting_network.Stop.TheVariants.{Ended, NoMemory}
 
 -- the steady state at a frequency ends so, and names a node of the case
 pub record EndsSteady (case : Parts) (freq : ℤ) (end : Ending) : Type 0 where

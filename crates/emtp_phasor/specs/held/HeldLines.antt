@@ -6,7 +6,7 @@ use Rattle.emtp_case.specs.declared.case.Parts.{Parts}
 use Rattle.emtp_phasor.specs.held.HeldSystem.{IsReady}
 use Rattle.emtp_phasor.specs.Scanning.{frequency_at, line_at}
 use Rattle.emtp_phasor.specs.declared.line.ScanLine.{ScanLine}
-use Rattle.emtp_phasor.specs.declared.system.System.{System}
+use Rattle.emtp_phasor.specs.declared.doubled_system.System.{System}
 
 -- the lines of the first frequencies, and a system that is fit for the next one
 pub record HasLines (case : Parts) (probe : Probe) (first by : ℤ) (s : System) (lines : List ScanLine) (count : ℕ) : Type 0 where

@@ -12,9 +12,9 @@ use Rattle.emtp_phasor.specs.held.HeldBranches.{branches_by_row}
 use Rattle.emtp_phasor.specs.held.HeldGroups.{members_by_row}
 use Rattle.emtp_phasor.specs.held.HeldSources.{IsSmallBrought, brought_by_row}
 use Rattle.emtp_phasor.specs.Steady.{resting_kinds, steady_right}
-use Rattle.emtp_phasor.specs.declared.resting.RestingNetwork.{RestingNetwork}
-use Rattle.emtp_phasor.specs.declared.room.Room.{Room}
-use Rattle.emtp_phasor.specs.declared.system.System.{System}
+use Rattle.emtp_phasor.specs.declared.resting_network.RestingNetwork.{RestingNetwork}
+use Rattle.emtp_phasor.specs.declared.workspace.Workspace.{Workspace}
+use Rattle.emtp_phasor.specs.declared.doubled_system.System.{System}
 
 -- it is of the case, whose switches tie no two known voltages at rest
 pub record IsResting (case : Parts) (n : RestingNetwork) : Type 0 where
@@ -28,19 +28,19 @@ pub record IsResting (case : Parts) (n : RestingNetwork) : Type 0 where
   pub brought_small : IsSmallBrought case n.brought.items
 
 -- its row at work is clear, and each part has its length
-pub record HasRoom (case : Parts) (room : Room) : Type 0 where
-  pub done_size : room.done.size ≡ 2 * length case.nodes
-  pub work_clear : IsClearRow (2 * length case.nodes) room.work
-  pub rhs_count : length room.rhs.items ≡ 2 * length case.nodes
-  pub x_count : length room.x.items ≡ 2 * length case.nodes
-  pub volts_count : length room.volts.items ≡ length case.nodes + 1
+pub record HasWorkspace (case : Parts) (workspace : Workspace) : Type 0 where
+  pub done_size : workspace.done.size ≡ 2 * length case.nodes
+  pub work_clear : IsClearRow (2 * length case.nodes) workspace.work
+  pub rhs_count : length workspace.rhs.items ≡ 2 * length case.nodes
+  pub x_count : length workspace.x.items ≡ 2 * length case.nodes
+  pub volts_count : length workspace.volts.items ≡ length case.nodes + 1
 
--- its network and its right side are those of the case, and it has its room
+-- its network and its right side are those of the case, and it has its workspace
 pub record IsReady (case : Parts) (s : System) : Type 0 where
   pub resting : IsResting case s.resting
   pub right_is : s.right.items ≡ steady_right case
   pub ports_count : length s.ports.items ≡ length case.branches
-  pub room : HasRoom case s.room
+  pub workspace : HasWorkspace case s.workspace
 
 -- its two-ports are those of a frequency
 pub record HasPorts (case : Parts) (freq : ℤ) (s : System) : Type 0 where

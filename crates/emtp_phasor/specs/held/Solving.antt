@@ -10,7 +10,7 @@ use Rattle.emtp_machine.specs.declared.end.Cause.{Cause}
 use Rattle.emtp_phasor.specs.declared.ending.Ending.{Ending}
 use Rattle.emtp_phasor.specs.declared.fault.PhasorFault.{PhasorFault}
 use Rattle.emtp_phasor.specs.declared.fault.PhasorFault.TheVariants.{Ended, NoMemory, Refused}
-use Rattle.emtp_phasor.specs.declared.solving.Phasors.{Phasors}
+use Rattle.emtp_phasor.specs.declared.steady_state.Phasors.{Phasors}
 
 -- an end, told by the name of its node
 pub record TellsEnd (case : Parts) (end : Ending) (name : List ℕ) (cause : Cause) (measured : ℤ) : Type 0 where

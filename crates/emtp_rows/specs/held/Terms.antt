@@ -1,5 +1,5 @@
 -- How the nodal rows are held: of each row the terms of its node, by column.
-use Rattle.std.specs.Prelude.{◌≡◌, ℕ, ◌+◌, ◌*◌, ◌%◌, ◌<◌, ◌≤◌, ◌==◌, ℤ, pos, ◌+ℤ◌, ◌-ℤ◌, neg_ℤ, unsigned_abs, nat_lt, map, Bool, true, false, if◌then◌else◌, List, [], ◌∷◌, All, length, replicate, slice_get, slice_index_or, Option, Some, None}
+use Rattle.std.specs.Prelude.{◌≡◌, ◌≢◌, ℕ, ◌+◌, ◌*◌, ◌%◌, ◌<◌, ◌≤◌, ◌==◌, ℤ, pos, ◌+ℤ◌, ◌-ℤ◌, neg_ℤ, unsigned_abs, nat_lt, map, Bool, true, false, if◌then◌else◌, List, [], ◌∷◌, All, length, replicate, slice_get, slice_index_or, Option, Some, None}
 use Rattle.std.specs.List.{range_with_len}
 use Rattle.emtp_fix.specs.declared.limit.TheConstants.{LARGEST_ENTRY}
 use Rattle.emtp_elim.specs.Matrix.{item}
@@ -92,6 +92,12 @@ pub record HasTerms (case : Parts) (n count : ℕ) (terms : List Term) : Type 0 
       ≡ sum_below count (λ b. total (in_node own coupling (node_at case j)) (terms_at case n b))
   pub few : length terms ≤ 3 * count
   pub exist : All (IsTerm (length case.nodes) (length case.branches) (length case.trios)) terms
+
+-- the row of this node has grown by these terms, and the others are as they were
+pub record AddsEnd (case : Parts) (n : ℕ) (more : List NodeTerm) (old new : List (List Term)) : Type 0 where
+  pub here : (i : ℕ) → i < length old → node_at case i ≡ n
+      → Adds case more (slice_index_or old i []) (slice_index_or new i [])
+  pub others : (i : ℕ) → i < length old → node_at case i ≢ n → slice_index_or new i [] ≡ slice_index_or old i []
 
 -- each row holds the terms of its node
 abbrev pub HasAllTerms : Parts → List (List Term) → Type 0

@@ -1,11 +1,13 @@
 use Rattle.std.proofs.Common.{◌≡◌, ◌∙◌, ◌<◌, ◌≤◌, sym, ap, subst, refl, ℕ, ℤ, List, All, pos, Some, None, length, get_or, slice_get, to_z, of_z, unsigned_abs, arith}
 use mir.Syntax.{w64}
 use Rattle.std.proofs.lemmas.Int.{ints}
+use Rattle.std.proofs.lemmas.List.{get_or-set_same}
 use Rattle.std.proofs.lemmas.Option.{slice_get-get_or}
 use Rattle.emtp_case.specs.held.Sizes.{sizes_of}
 use Rattle.emtp_case.specs.held.Control.{IsBlock}
 use Rattle.emtp_case.specs.declared.case.Parts.{Parts}
 use Rattle.emtp_case.specs.declared.control.Block.{Block}
+use Rattle.emtp_case.specs.declared.control.BlockState.{BlockState}
 use Rattle.emtp_case.specs.declared.control.Input.{Input}
 use Rattle.emtp_elim.specs.Matrix.{item}
 use Rattle.emtp_fix.proofs.Wide.{through_64}
@@ -46,12 +48,12 @@ input_sum-s-requires-clause-blocks c = λ k d below x is.
 small_64 : (z : ℤ) → unsigned_abs z ≤ LARGEST_VALUE → unsigned_abs (to_z w64 (of_z w64 z)) ≤ LARGEST_VALUE
 small_64 z small = subst (λ (y : ℤ). unsigned_abs y ≤ LARGEST_VALUE) (sym (through_64 z small)) small
 
-pub returns-in-Some-clause-taken : goal.returns-in-Some-clause-taken
-returns-in-Some-clause-taken c = record {
-  state = c.in-Some.state;
+pub returns-clause-taken : goal.returns-clause-taken
+returns-clause-taken c = record {
+  state = c.step.new.state;
   states = refl;
-  same = λ told. c.is_same-same.ensures told;
-  kept = c.in-Some.ensures.kept;
+  same = λ told. c.is_same-same.ensures told ∙ ap (λ (s : BlockState). s.limiter) (get_or-set_same c.args.states.now c.args.at c.step.new.state no_kept (omega (arith, c.requires.there, c.requires.state_each)));
+  kept = c.step.ensures.kept;
   small = small_64 c.output-x.result c.output-x.ensures.small;
   gives = λ H stands.
       let case = c.args.diagram.now.case.now.parts in
@@ -74,16 +76,16 @@ returns-in-Some-clause-taken c = record {
       rw solved at c.output-x.ensures.value ∙ ap (λ (l : Limits). output_of l (get_or c.args.states.now at no_kept).limiter (item xs at)) lim ∙ ap (λ l. output_of (limits_of known b) l (item xs at)) has.limiter_is in
       let sum : c.input_sum-s.result ≡ input_sum (block_of case) known xs at c.output-x.result b.inputs =
       rw (x, c.as_slice-2.ensures, c.requires.diagram.places_are) at c.input_sum-s.ensures.value ∙ input_sum_is case known xs at c.output-x.result b.inputs fits.inputs in
-      let keeps = c.in-Some.ensures.value case.run.dt (state_at H at) law has in
-      let K : Limits → ℤ → ℤ → Type 0 = λ l v n. Keeps b.order (Some c.in-Some.state) (next_state case.run.dt b l (state_at H at) v n) in
+      let keeps = c.if-not-step.ensures.value case.run.dt (state_at H at) law has in
+      let K : Limits → ℤ → ℤ → Type 0 = λ l v n. Keeps b.order (Some c.step.new.state) (next_state case.run.dt b l (state_at H at) v n) in
       let K1 : Limits → Type 0 = λ l. K l (item xs at) c.input_sum-s.result in
       let K2 : ℤ → Type 0 = λ n. K (limits_of known b) (item xs at) n in
       let keeps' = subst K2 sum (subst K1 lim (rw (solved, s) at keeps)) in
-      gives_some case H known xs at b (record { output = to_z w64 (of_z w64 c.output-x.result); state = c.in-Some.state }) here (x ∙ out) (rw x keeps');
+      gives_some case H known xs at b (record { output = to_z w64 (of_z w64 c.output-x.result); state = c.step.new.state }) here (x ∙ out) (rw x keeps');
 }
 
-pub returns-in-None-clause-out : goal.returns-in-None-clause-out
-returns-in-None-clause-out c = λ H stands.
+pub returns-then-not-step-clause-out : goal.returns-then-not-step-clause-out
+returns-then-not-step-clause-out c = λ H stands.
     let case = c.args.diagram.now.case.now.parts in
     let at = c.args.at in
     let known = c.args.values.now.known.now in
@@ -104,7 +106,7 @@ returns-in-None-clause-out c = λ H stands.
     rw solved at c.output-x.ensures.value ∙ ap (λ (l : Limits). output_of l (get_or c.args.states.now at no_kept).limiter (item xs at)) lim ∙ ap (λ l. output_of (limits_of known b) l (item xs at)) has.limiter_is in
     let sum : c.input_sum-s.result ≡ input_sum (block_of case) known xs at c.output-x.result b.inputs =
     rw (x, c.as_slice-2.ensures, c.requires.diagram.places_are) at c.input_sum-s.ensures.value ∙ input_sum_is case known xs at c.output-x.result b.inputs fits.inputs in
-    let keeps = c.in-None.ensures.value case.run.dt (state_at H at) law has in
+    let keeps = c.if-not-step.ensures.value case.run.dt (state_at H at) law has in
     let K : Limits → ℤ → ℤ → Type 0 = λ l v n. Keeps b.order None (next_state case.run.dt b l (state_at H at) v n) in
     let K1 : Limits → Type 0 = λ l. K l (item xs at) c.input_sum-s.result in
     let K2 : ℤ → Type 0 = λ n. K (limits_of known b) (item xs at) n in
@@ -139,20 +141,20 @@ input_sum-s-requires-clause-there c =
     let named = subst (λ n. All (λ (i : Input). i.var < n) c.index-as_slice-at.result.inputs) (sym c.requires.values.known.one_each) (block_is c.args.diagram.now.case.now.parts c.as_slice.result.now c.args.at c.index-as_slice-at.result c.args.diagram.now.case.now.fits.draft.control.blocks c.requires.there c.as_slice.ensures c.index-as_slice-at.is).inputs in
     subst (λ (xs : List Input). All (λ (i : Input). i.var < length c.args.values.now.known.now) xs) (sym c.as_slice-2.ensures) named
 
-pub next-requires-clause-order : goal.next-requires-clause-order
-next-requires-clause-order c = (block_is c.args.diagram.now.case.now.parts c.as_slice.result.now c.args.at c.index-as_slice-at.result c.args.diagram.now.case.now.fits.draft.control.blocks c.requires.there c.as_slice.ensures c.index-as_slice-at.is).order
+pub step-requires-clause-order : goal.step-requires-clause-order
+step-requires-clause-order c = (block_is c.args.diagram.now.case.now.parts c.as_slice.result.now c.args.at c.index-as_slice-at.result c.args.diagram.now.case.now.fits.draft.control.blocks c.requires.there c.as_slice.ensures c.index-as_slice-at.is).order
 
-pub next-requires-clause-gain : goal.next-requires-clause-gain
-next-requires-clause-gain c = (block_is c.args.diagram.now.case.now.parts c.as_slice.result.now c.args.at c.index-as_slice-at.result c.args.diagram.now.case.now.fits.draft.control.blocks c.requires.there c.as_slice.ensures c.index-as_slice-at.is).gain
+pub step-requires-clause-gain : goal.step-requires-clause-gain
+step-requires-clause-gain c = (block_is c.args.diagram.now.case.now.parts c.as_slice.result.now c.args.at c.index-as_slice-at.result c.args.diagram.now.case.now.fits.draft.control.blocks c.requires.there c.as_slice.ensures c.index-as_slice-at.is).gain
 
-pub next-requires-clause-law : goal.next-requires-clause-law
-next-requires-clause-law c = c.requires.diagram.laws_fit c.args.at no_law (omega (arith, c.requires.diagram.law_each, c.requires.there))
+pub step-requires-clause-law : goal.step-requires-clause-law
+step-requires-clause-law c = c.requires.diagram.laws_fit c.args.at no_law (omega (arith, c.requires.diagram.law_each, c.requires.there))
 
-pub next-requires-clause-old : goal.next-requires-clause-old
-next-requires-clause-old c = c.requires.state
+pub step-requires-clause-old : goal.step-requires-clause-old
+step-requires-clause-old c = c.requires.state
 
-pub next-requires-clause-signals : goal.next-requires-clause-signals
-next-requires-clause-signals c = record {
+pub step-requires-clause-signals : goal.step-requires-clause-signals
+step-requires-clause-signals c = record {
   sum = omega (arith, ints, c.input_sum-s.ensures.small);
   solved = small_64 (item c.args.values.now.solved.now c.args.at) (c.requires.values.solved.small c.args.at (pos 0) (omega (arith, c.requires.there, c.requires.values.solved.one_each)));
   output = small_64 c.output-x.result c.output-x.ensures.small;

@@ -17,12 +17,12 @@ returns-clause-text c =
     let multiplier = c.multiplier_at-multiplier.ensures.value c.args.sheet.now.samples.now.rows c.requires.sheet.multipliers in
     let multiplier : to_z w64 (of_z w64 c.multiplier_at-multiplier.result) ≡ pos (multiplier_at c.args.sheet.now.samples.now.rows c.args.place) = search (rules, multiplier) in
     let raw : c.raw_value_by.result ≡ near (value_at c.args.sheet.now.samples.now.rows c.args.sample c.args.place) (pos (multiplier_at c.args.sheet.now.samples.now.rows c.args.place)) =
-    c.raw_value_by.ensures
+    c.raw_value_by.ensures.value
     ∙ ap (λ (z : ℤ). near z (to_z w64 (of_z w64 c.multiplier_at-multiplier.result))) value
     ∙ ap (λ (m : ℤ). near (value_at c.args.sheet.now.samples.now.rows c.args.sample c.args.place) m) multiplier in
     let held : to_z w64 (of_z w64 c.raw_value_by.result) ≡ near (value_at c.args.sheet.now.samples.now.rows c.args.sample c.args.place) (pos (multiplier_at c.args.sheet.now.samples.now.rows c.args.place)) = search (rules, raw) in
-    raw_at-some c.args.sheet.now.case.now.parts c.args.sheet.now.samples.now.rows c.args.sample c.args.place c.args.text.now c.push.new.self c.push_number.new.self c.is_status_at.result (to_z w64 (of_z w64 c.raw_value_by.result))
-    c.is_status_at.ensures c.if-is_status_at.false held c.push.ensures.text c.push_number.ensures.text
+    raw_at-some c.args.sheet.now.case.now.parts c.args.sheet.now.samples.now.rows c.args.sample c.args.place c.args.text.now c.push_byte.new.self c.push_short.new.self c.is_status_at.result (to_z w64 (of_z w64 c.raw_value_by.result))
+    c.is_status_at.ensures c.if-is_status_at.false held c.push_byte.ensures.text c.push_short.ensures.text
 
 pub returns-clause-analog : goal.returns-clause-analog
 returns-clause-analog c =

@@ -1,5 +1,5 @@
 use Rattle.std.proofs.Common.{arith, subst, sym}
-use Rattle.emtp_deck.specs.held.Filling.{Fills, made_of}
+use Rattle.emtp_deck.specs.held.Filling.{Makes, made_of}
 use Rattle.emtp_deck.proofs.Growing.{own_points, one_taken, line_taken}
 use Rattle.emtp_deck.proofs.branches.take_entry.Goals as goal
 
@@ -16,11 +16,11 @@ take_line-requires-clause-nodes c = rw c.in-Trio.is at c.requires.nodes
 pub returns-in-Single-clause-value : goal.returns-in-Single-clause-value
 returns-in-Single-clause-value c =
     let m = made_of c.args.filling.now in
-    subst (λ r. Fills c.take_one.result r (made_of c.take_one.new.filling))
+    subst (λ r. Makes c.take_one.result r (made_of c.take_one.new.filling))
     (sym (one_taken c.args.points.now m c.in-Single.card c.in-Single.first c.in-Single.count _ c.args.entry.now c.in-Single.is (omega arith))) c.take_one.ensures.value
 
 pub returns-in-Trio-clause-value : goal.returns-in-Trio-clause-value
 returns-in-Trio-clause-value c =
     let m = made_of c.args.filling.now in
-    subst (λ r. Fills c.take_line.result r (made_of c.take_line.new.filling))
+    subst (λ r. Makes c.take_line.result r (made_of c.take_line.new.filling))
     (sym (line_taken c.args.points.now m c.in-Trio.zero c.in-Trio.positive c.in-Trio.third c.args.entry.now c.in-Trio.is)) c.take_line.ensures.value

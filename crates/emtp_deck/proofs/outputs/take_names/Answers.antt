@@ -4,7 +4,7 @@ use Rattle.emtp_card.specs.declared.reason.Bad.{Bad}
 use Rattle.emtp_card.specs.declared.reason.Refused.{Refused}
 use Rattle.emtp_card.specs.declared.reason.Refused.TheVariants.{Bad as OfBad, NoMemory}
 use Rattle.emtp_walk.specs.Answer.{go_on}
-use Rattle.emtp_deck.specs.held.Filling.{Fills, made_of}
+use Rattle.emtp_deck.specs.held.Filling.{Makes, made_of}
 use Rattle.emtp_deck.specs.Made.{Made}
 use Rattle.emtp_deck.specs.declared.outputs.Named.{Named}
 use Rattle.emtp_deck.specs.Outputs.{take_name, take_names}
@@ -18,7 +18,7 @@ further named line m column names i x taken is inside takes =
     let go : Result Made Bad → Result Made Bad = go_on (λ (made : Made). take_names named line made (column + 6) (drop (i + 1) names)) in
     at_drop_more (take_names named line m column) names i x inside ∙ ap (λ y. go (take_name named line m column y)) (sym is) ∙ ap go takes
 
-bad_left : (refused : Refused) (defined whole : Result Made Bad) (m : Made) → ((bad : Bad) → defined ≡ Err bad → whole ≡ Err bad) → Fills (Err refused) defined m → Fills (Err refused) whole m
+bad_left : (refused : Refused) (defined whole : Result Made Bad) (m : Made) → ((bad : Bad) → defined ≡ Err bad → whole ≡ Err bad) → Makes (Err refused) defined m → Makes (Err refused) whole m
 bad_left (OfBad bad) defined whole m on is = on bad is
 bad_left NoMemory defined whole m on is = is
 

@@ -1,4 +1,4 @@
-use Rattle.std.proofs.Common.{refl, subst, List, ℕ, Err, Ok}
+use Rattle.std.proofs.Common.{subst, List, ℕ, Err, Ok}
 use Rattle.emtp_inspect.specs.AfterRun.{told_again}
 use Rattle.emtp_run.specs.Outcome.{summarised}
 use Rattle.emtp_run.specs.Words.{texts}
@@ -20,5 +20,5 @@ returns-in-Err g c = record {
   held = Err c.in-Err.end;
   reading = c.in-Err.ensures.reading;
   bytes = λ tells. tt;
-  telling = (c.unread_status.ensures, refl);
+  telling = c.leave_unread.ensures;
 }

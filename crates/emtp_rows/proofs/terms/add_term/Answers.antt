@@ -29,7 +29,7 @@ returns-in_ok-push c =
       there = rw (at row) at c.row_of-column.ensures.there;
       only = λ k below e. c.row_of-column.ensures.only k (omega (arith, below, size, length-order_of case)) (rw (at k) e);
     } in
-    adds_term case c.args.node row c.args.amount c.args.terms.now.items c.push.new.self.items is c.requires.amount c.in_ok-push.ensures.items
+    adds_term case c.args.node row c.args.amount c.args.terms.now c.push.new.self is c.requires.amount c.in_ok-push.ensures.ok
 
 pub returns-else-node-ne0 : goal.returns-else-node-ne0
-returns-else-node-ne0 c = rw c.if-node-ne0.false (adds_ground c.args.case.now.parts c.args.amount c.args.terms.now.items)
+returns-else-node-ne0 c = rw c.if-node-ne0.false (adds_ground c.args.case.now.parts c.args.amount c.args.terms.now)

@@ -14,10 +14,10 @@ returns-in_err-reduce_right-clause-fault c =
 
 pub returns-clause-solved : goal.returns-clause-solved
 returns-clause-solved c =
-    on_ok_both c.substitute_back.result (solves_ok c.args.self.now.rows c.args.rhs.now c.reduce_right.new.right c.substitute_back.new.x c.substitute_back.ensures.square (c.requires.rhs ∙ sym c.requires.full) c.in_ok-reduce_right.ensures.reduced)
+    on_ok_both c.substitute_back.result (solves_ok c.args.self.now.rows c.args.rhs.now c.reduce_right.new.x c.substitute_back.new.x c.substitute_back.ensures.square (c.requires.rhs ∙ sym c.requires.full) c.in_ok-reduce_right.ensures.reduced)
     c.substitute_back.ensures.solved c.substitute_back.ensures.within
 
 pub returns-clause-fault : goal.returns-clause-fault
 returns-clause-fault c =
-    IfErr-weaker c.substitute_back.result _ _ (λ fault last. solves_unknown_fault c.args.self.now.rows c.args.rhs.now c.reduce_right.new.right fault.row c.substitute_back.ensures.square (c.requires.rhs ∙ sym c.requires.full) c.in_ok-reduce_right.ensures.reduced last)
+    IfErr-weaker c.substitute_back.result _ _ (λ fault last. solves_unknown_fault c.args.self.now.rows c.args.rhs.now c.reduce_right.new.x fault.row c.substitute_back.ensures.square (c.requires.rhs ∙ sym c.requires.full) c.in_ok-reduce_right.ensures.reduced last)
     c.substitute_back.ensures.fault

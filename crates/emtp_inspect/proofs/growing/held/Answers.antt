@@ -1,0 +1,12 @@
+use Rattle.std.proofs.Common.{◌≤◌, ◌*◌, ◌^◌, ◌∙◌, ap, ℤ, unsigned_abs, arith}
+use mir.Syntax.{w128}
+use Rattle.std.proofs.lemmas.Int.{ints, clamps, to_z-of_z}
+use Rattle.emtp_fix.proofs.Wide.{narrow_is}
+use Rattle.emtp_acting.specs.Fictitious.{held as held_of}
+use Rattle.emtp_inspect.proofs.growing.held.Goals as goal
+
+small : (x : ℤ) → unsigned_abs (held_of x) ≤ 4 * 10 ^ 18
+small x = omega (arith, ints, clamps)
+
+pub returns : goal.returns
+returns c = narrow_is c.clamp.result (held_of c.args.x) (c.clamp.ensures.value ∙ ap held_of (to_z-of_z w128 c.args.x c.ranges.x)) (small c.args.x)
