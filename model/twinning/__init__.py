@@ -1,0 +1,1 @@
+"""Changes of the model, one at a time, and what refuses each."""
