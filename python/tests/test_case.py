@@ -380,8 +380,11 @@ class Refusals(unittest.TestCase):
         with self.assertRaisesRegex(CaseError, "SRC has a voltage source already"):
             case.step("SRC", amplitude_v=1)
         case.control.step("X", 1)
-        with self.assertRaisesRegex(CaseError, "the variable X is there already"):
+        made = r"the variable X is there already, made by test_case.py line \d+, step\('X', 1\); "
+        with self.assertRaisesRegex(CaseError, made + "take another name"):
             case.control.formula("X", "1")
+        with self.assertRaisesRegex(CaseError, made + "name the other end of the switch"):
+            case.control.current("X")
 
     def test_of_the_case_itself(self) -> None:
         rows = [

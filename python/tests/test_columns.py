@@ -6,6 +6,7 @@ import unittest
 from decimal import Decimal
 
 from wurdanei import columns, fields
+from wurdanei.case import Case
 
 R = columns.SERIES.field("R")
 B = columns.LINES[1].field("velocity")
@@ -119,6 +120,27 @@ class Cards(unittest.TestCase):
         self.assertEqual(fields.card(columns.LINES[1], texts), "  A" + " " * 26 + ".08 380. 2.97E5123456")
         texts = {"BUS1": "A", "surge impedance": "123.45", "velocity": "2.97E5"}
         self.assertEqual(fields.card(columns.LINES[1], texts), "  A" + " " * 29 + "123.452.97E5")
+
+    def test_numbers_stand_apart_where_a_blank_loses_nothing(self) -> None:
+        """Four digits and a point take five columns; no number that has a neighbour has fewer than six."""
+        pick = random.Random(5)
+        for card in (columns.LINES[1], columns.SWITCH, columns.VALVE, columns.BLOCK, columns.SOURCE, columns.POINT):
+            places = [place for place in card.fields if place.kind == "number" and place.high]
+            for _ in range(200):
+                values = [Decimal(pick.randrange(1, 10**4)).scaleb(-pick.randrange(4)) for _ in places]
+                texts = {place.name: fields.roomy(value, place).text for place, value in zip(places, values)}
+                line = fields.card(card, texts).ljust(80)
+                for place, value in zip(places, values):
+                    self.assertEqual(Decimal(line[place.first - 1 : place.last].strip()), value, line)
+                borders = [one.last for one, other in zip(places, places[1:]) if one.last + 1 == other.first]
+                self.assertFalse([last for last in borders if " " not in line[last - 1 : last + 1]], line)
+
+    def test_a_branch_is_wide_where_its_digits_fill_narrow_fields(self) -> None:
+        case = Case(1e-6, 1e-3)
+        case.series("A", "B", r_ohm=1.2345, l_mh=2.3456, c_uf=3.4567)
+        (line,) = [line for line in case.text().splitlines() if line.startswith("  A ")]
+        values = [line[first - 1 : first + 15].strip() for first in (27, 43, 59)]
+        self.assertEqual((values, line[41:44], line[57:60]), (["1.2345", "2.3456", "3.4567"], "5  ", "6  "))
 
 
 if __name__ == "__main__":

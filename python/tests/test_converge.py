@@ -4,12 +4,33 @@ import contextlib
 import io
 import math
 import os
+import pathlib
+import re
 import tempfile
 import unittest
 
 from wurdanei import converge, program
 from wurdanei.case import Case
 from wurdanei.converge import Quantity
+
+# a wave of 500 kV on 350 ohm meets an arrester
+WAVE = """BEGIN NEW DATA CASE
+   1.E-6   1.E-4
+       1       1
+  E     S                   350.
+-1S     A                         350. 1.E-5    1. 2
+99A
+              1.         540000.
+            500.         645000.
+           1000.         662000.
+            9999
+BLANK
+BLANK
+11E             1.E6
+BLANK
+  A
+BLANK
+"""
 
 needs_program = unittest.skipUnless(program.is_there(), "the program isn't built, so it answers nothing")
 
@@ -30,6 +51,15 @@ def told(words: list[str]) -> tuple[int, str, str]:
     with contextlib.redirect_stdout(out), contextlib.redirect_stderr(err):
         status = converge.main(words)
     return status, out.getvalue(), err.getvalue()
+
+
+def judges() -> bool:
+    """Whether the program that is there says how far a run is off."""
+    if not program.is_there() or not program.has_judge():
+        return False
+    with tempfile.TemporaryDirectory() as room:
+        pathlib.Path(room, "x.case").write_text(WAVE, encoding="ascii")
+        return program.run(["judge", "x.case"], room).status == 0
 
 
 class Numbers(unittest.TestCase):
@@ -69,8 +99,8 @@ class Cases(unittest.TestCase):
             own, other = converge.report_of(path), converge.of(charged, 2e-4)
             self.assertEqual([it.values for it in own.quantities], [it.values for it in other.quantities])
             (first, _, third) = converge.retimed(converge.Deck(path))
-            self.assertIn("\n   2.E-4    .004\n", first)
-            self.assertIn("\n   5.E-5    .004\n", third)
+            self.assertIn("\n  2.E-4     .004\n", first)
+            self.assertIn("\n  5.E-5     .004\n", third)
             self.assertEqual([line.split() for line in third.splitlines() if line.split()[1:] == ["4"]], [["1", "4"]])
             status, words, _ = told([path, "--channels", "V *", "--csv", os.path.join(room, "x.csv")])
             self.assertEqual(status, 0)
@@ -92,6 +122,22 @@ class Cases(unittest.TestCase):
         report = converge.of(rising, 1e-5)
         self.assertEqual((len(report.ended), report.converges), (2, False))  # it comes to 4 kA
         self.assertRegex(report.ended[1], "^at 1/4 of the step the run ended in step .* RANGE at A")
+
+    @unittest.skipUnless(judges(), "the program that is there doesn't judge a run")
+    def test_points_off_a_characteristic_are_told(self) -> None:
+        """Step 1 behind the front is still on the first segment, of 540 kilohm: 999 kV at each of the three steps."""
+        with tempfile.TemporaryDirectory() as room:
+            path = os.path.join(room, "x.case")
+            pathlib.Path(path).write_text(WAVE, encoding="ascii")
+            _, said, _ = told([path])
+        branch = "line 6, nonlinear resistor, BUS1=A, BUS2=(ground)"
+        for part in converge.STEPS:
+            self.assertRegex(
+                said, f"at 1/{part} of the step: {re.escape(branch)}, off its characteristic in steps=[1-9]"
+            )
+            self.assertIn(
+                f"at 1/{part} of the step: warning, {branch}, the record has a peak of the voltage that isn't on", said
+            )
 
     def test_what_is_refused(self) -> None:
         points = [(1e-3, 1e5), (1e3, 2e5)]

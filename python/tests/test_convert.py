@@ -197,6 +197,12 @@ class Convert(Folder):
         source = Recorder([place * 1e-6 for place in range(99)] + [3000.0], [wave]).write(self.folder)
         self.assertIn("too unevenly", self.run_words(source, self.out("o.cfg"), "--rate", "4000", status=2))
 
+    def test_one_file_beside_two_of_its_name(self):
+        source = self.files(OWN_CFG, OWN_DAT)
+        single = source[: -len("cfg")] + "cff"
+        self.run_words(source, single)
+        self.assertEqual(read(single).channel("V MID").tolist(), read(source).channel("V MID").tolist())
+
     def test_refusals(self):
         source = self.files(OWN_CFG, OWN_DAT)
         for words, said in (

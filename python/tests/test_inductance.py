@@ -2,8 +2,11 @@
 written in another form is what was asked for."""
 
 import math
+import pathlib
 import re
+import tempfile
 import unittest
+from dataclasses import dataclass
 from fractions import Fraction
 
 import numpy as np
@@ -309,6 +312,103 @@ class Beside(unittest.TestCase):
                     self.assertAlmostEqual(warns[at][0], own.r_ohm, delta=1e-9 + 1e-9 * abs(own.r_ohm))
                     self.assertAlmostEqual(abs(warns[at][1]), own.drift, delta=1e-9 + 1e-9 * own.drift)
         self.assertGreater(count, 100)
+
+
+def wide(value: int, places: int) -> str:
+    """A whole number of parts of 10^-places, in the 16 columns of a wide field; none where it is 0."""
+    return f"{value // 10**places}.{value % 10**places:0{places}}".rjust(16) if value else " " * 16
+
+
+def nearest(value: Fraction) -> int:
+    """The nearest whole number, a half away from zero."""
+    size = inductance.near(abs(value.numerator), value.denominator)
+    return size if value > 0 else -size
+
+
+def held(value: int) -> int:
+    """The number nearest to it that `show` tells: to 1e18 in magnitude."""
+    return max(-(10**18), min(value, 10**18))
+
+
+@dataclass(frozen=True)
+class Branch:
+    """A series branch as its card has it: R in micro-ohm, L in nH, C in fF."""
+
+    r: int
+    l: int
+    c: int
+
+    def warnings(self, dt_ps: int, steps: int) -> list[str]:
+        """What `show` has to say of it over a run, by this package's numbers: each text ends with its first number."""
+        z = inductance.impedance(dt_ps, self.r, self.l, self.c)
+        own, found = inductance.acting(z), []
+        if (
+            self.l
+            and inductance.drift(own, self.l, steps * dt_ps) > Fraction(1, 1000)
+            and abs(own) > self.r * Fraction(1, 10**4)
+        ):
+            part = held(nearest(own * steps * dt_ps / self.l))  # in 1e-9, since micro-ohm times ps over nH are that
+            text = f"r={fixed(nearest(own * 1000), 9)} ohm, r T/L={fixed(part, 9)}"
+            found.append(f"the rounding of its conductance acts as a resistance in series: {text}")
+        if self.r and 2 * abs(own) >= self.r:
+            found.append(f"R acts as another one: R + r={fixed(1000 * self.r + nearest(own * 1000), 9)} ohm")
+        zc = inductance.of_capacitance(dt_ps, self.c)
+        if self.c and not zc:
+            found.append("C acts as a wire")
+        elif self.c and abs(Fraction(10**9 * dt_ps, 2 * zc) / self.c - 1) > Fraction(1, 10**4):
+            acting = held(inductance.near(10**9 * dt_ps, 2 * zc))
+            found.append(f"C acts as another one: acting C={fixed(acting, 9)} uF")
+        return found
+
+
+def fixed(value: int, places: int) -> str:
+    """A whole number of parts of 10^-places as a decimal without needless zeros."""
+    digits = f"{abs(value):0{places + 1}}"
+    text = f"{digits[:-places]}.{digits[-places:]}".rstrip("0").rstrip(".")
+    return f"-{text}" if value < 0 else text
+
+
+@needs_program
+class AnyBranch(unittest.TestCase):
+    """What the proved `show` warns of is what the package computes, on random branches and to the last digit."""
+
+    KNOWN = ("the rounding of its conductance", "R acts as another one", "C acts as")
+
+    def branch(self, random: np.random.Generator, dt_ps: int) -> Branch:
+        """One of an impedance that a branch may have, of any mixture of R, L and C."""
+        while True:
+            r, l, c = (int(10 ** random.uniform(0, 15)) * (random.random() < 0.6) for _ in range(3))
+            l = l // 10 ** int(random.integers(0, 8))
+            if inductance.LEAST_OHM <= inductance.impedance(dt_ps, r, l, c) <= inductance.MOST_OHM:
+                return Branch(r, l, c)
+
+    def shown(self, dt_ps: int, steps: int, branches: list[Branch]) -> dict[int, list[str]]:
+        """What `show` warns of each branch, by its place; of a drift without the inductance that has none."""
+        head = [f"{dt_ps * 1e-12:8.0E}{steps * dt_ps * 1e-12:8g}", f"{1:>8}{steps:>8}", "$VINTAGE, 1"]
+        cards = [
+            f"  N{at // 2:<5}{'':18}{wide(it.r, 6)}{wide(it.l, 6)}{wide(it.c, 9)}" for at, it in enumerate(branches)
+        ]
+        lines = ["BEGIN NEW DATA CASE", *head, *cards, *["BLANK"] * 4]
+        with tempfile.TemporaryDirectory() as folder:
+            pathlib.Path(folder, "a.case").write_text("\n".join(lines) + "\n", encoding="ascii")
+            ended = program.run(["show", "a.case"], folder)
+        self.assertEqual(ended.status, 0, ended.note)
+        found: dict[int, list[str]] = {}
+        for line, text in re.findall(r"^warning, line (\d+), (.*)$", ended.note, re.MULTILINE):
+            if text.startswith(self.KNOWN):
+                found.setdefault(int(line) - 5, []).append(text.partition(", none with")[0])
+        return found
+
+    def test_a_thousand_random_branches(self) -> None:
+        random = np.random.default_rng(73)
+        warned = 0
+        for dt_ps, steps in ((10**6, 210_000), (10**5, 450_000), (5 * 10**7, 4_000), (10**4, 1_000_000)):
+            branches = [self.branch(random, dt_ps) for _ in range(250)]
+            wanted = {at: it.warnings(dt_ps, steps) for at, it in enumerate(branches)}
+            wanted = {at: texts for at, texts in wanted.items() if texts}
+            warned += len(wanted)
+            self.assertEqual(self.shown(dt_ps, steps, branches), wanted)
+        self.assertGreater(warned, 100)
 
 
 if __name__ == "__main__":

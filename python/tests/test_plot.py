@@ -9,6 +9,7 @@ import math
 import os
 import pathlib
 import re
+import shutil
 import struct
 import unittest
 from unittest import mock
@@ -23,6 +24,7 @@ from wurdanei.spectrum import peaks_of, spectrum_of
 from .recorder import Wave, bay, current, voltage
 from .test_record import Folder
 
+EXAMPLES = pathlib.Path(__file__).resolve().parents[2] / "examples"
 PICTURES = importlib.util.find_spec("matplotlib") is not None
 CFG = (
     b"EMTP,CASE,1999\r\n5,4A,1D\r\n1,V A,,,V,0.5,0,0,-32767,32767,1,1,P\r\n2,I A-B,,,A,0.001,0,0,-32767,32767,1,1,P\r\n"
@@ -117,6 +119,23 @@ class Plot(Folder):
         self.assertNotRegex(text, r'<(?:script|link|img)[^>]+(?:src|href)="http')
         for words in ("<title>r.cfg</title>", '<html lang="en">', 'name="viewport"', "connect-src 'none'"):
             self.assertIn(words, text)
+
+    def test_something_to_judge(self):
+        """What `run` says of an arrester at a line; nothing of a divider, of another's record, and where no case is."""
+        sentence = "Arresters, reactors or rounded branches may be off in this run; emtp judge {} tells by how much."
+        for name, wanted in (("arrester_at_a_line", True), ("divider", False)):
+            for ending in ("case", "cfg", "dat"):
+                shutil.copy(EXAMPLES / name / f"{name}.{ending}", self.out(f"{name}.{ending}"))
+            printed = self.run_words(self.out(f"{name}.cfg"), self.out("o.html"))
+            said = sentence.format(self.out(f"{name}.case"))
+            self.assertEqual([said in printed.splitlines(), said in page_of(self.out("o.html"))[2]], [wanted] * 2)
+        record = pathlib.Path(self.out("arrester_at_a_line.cfg"))
+        own = record.read_bytes()
+        record.write_bytes(own.replace(b"EMTP,CASE", b"BAY 1,CASE", 1))
+        self.assertNotIn("may be off", self.run_words(str(record), self.out("o.html")))
+        record.write_bytes(own)
+        os.remove(self.out("arrester_at_a_line.case"))
+        self.assertNotIn("may be off", self.run_words(str(record), self.out("o.html")))
 
     def test_page_is_small(self):
         count = 1_401
@@ -232,12 +251,15 @@ class Plot(Folder):
         items, picture, text = page_of(self.out("o.html"))
         self.assertEqual(items[0]["x"].tolist(), [0.0, 75.0, 125.0])
         self.assertEqual([round(share) for share in items[0]["y"]], [33, 67, 100])
+        for told in (said, text):  # why a channel has a number alone
+            self.assertIn("no names and no units; --cfg CFG, the record of a run of its case, gives them", told)
         cfg = CFG.replace(b"5,4A,1D", b"3,2A,1D")
         cfg = cfg[: cfg.index(b"3,T TRIP")] + cfg[cfg.index(b"1,S A-B") :]
         with open(self.out("case.cfg"), "wb") as file:
             file.write(cfg)
         said = self.run_words(source, "--cfg", self.out("case.cfg"), self.out("o.png"))
         self.assertIn("V A in V: greatest 125 in row 2", said)
+        self.assertNotIn("--cfg CFG", said)
 
     def test_refusals(self):
         source = self.files(CFG, DAT)
@@ -255,6 +277,7 @@ class Plot(Folder):
             ([source, source[:-4] + ".dat", source], "this would be written over what is read"),
             ([self.out("none")], "No such file"),
             ([self.text("s1", SCAN), "--only", "X"], "is a summary, of which all is drawn"),
+            ([self.text("values.csv", "a,b\n1,2\n")], "is a table and no record"),
             ([self.text("s2", SCAN[:-1])], "is cut: its last line has no end"),
             ([self.text("s3", SCAN.replace("IM 40", "IM"))], "line 2 is cut, or no scan and no batch prints it"),
             ([self.text("s4", SCAN.replace("RE 30", "RE nan"))], "line 2 is cut, or no scan"),

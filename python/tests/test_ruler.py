@@ -28,6 +28,15 @@ class Ruler(unittest.TestCase):
         _, out, _ = printed("branch", "--comment")
         self.assertEqual([line[:2] + line[26:33] for line in out.splitlines()], ["C R-----L", "C R------"])
 
+    def test_a_comment_keeps_the_first_name(self) -> None:
+        for word, line in (
+            ("first", "C DELTATTMAX----XOPT----COPT----"),
+            ("second", "C IOUT--IPLOT---"),
+            ("switch", "C BUS1--BUS2--T-CLOSE---T-OPEN----MARGIN----"),
+            ("tolerance", "C RESIDUAL TOLERANCE    TOLER---"),
+        ):
+            self.assertTrue(printed(word, "--comment")[1].startswith(line), printed(word, "--comment")[1])
+
     def test_a_line_says_which_iline_a_field_is_of(self) -> None:
         rows = [line[9:].split("  ")[0] for line in printed("line")[1].splitlines() if line[:5] in ("33-38", "39-44")]
         fields = ["L (ILINE 0)", "surge impedance (ILINE 1, 2)"]

@@ -214,6 +214,20 @@ class Varied(unittest.TestCase):
                 hand[line - 1] = text
                 self.assertEqual(made, hand)
 
+    def test_fields_of_lines(self):
+        self.deck.lines[7] = f"{'-1FAR   END':32}  400.  2.E5  100. 1"
+        for asked, place in (
+            ("8:A=1.", (33, 38)),
+            ("8:surge impedance=1.", (33, 38)),
+            ("8:velocity=1.", (39, 44)),
+        ):
+            with self.subTest(asked=asked):
+                found = varied.varied_of(self.deck, asked)
+                self.assertEqual((found.first, found.last), place)
+        cause = r"line 8, a line card, has no field named C; it has .*surge impedance \(A\), velocity \(B\)"
+        with self.assertRaisesRegex(varied.VariedError, cause):
+            varied.varied_of(self.deck, "8:C=1.")
+
     def test_combinations(self):
         lists = [varied.varied_of(self.deck, it) for it in ("6,7:R=1.,2.", "14:amplitude=5.,6.,7.")]
         found = varied.combinations(lists)
@@ -225,8 +239,8 @@ class Varied(unittest.TestCase):
     def test_refusals(self):
         for asked, cause in (
             ("6:R", "it is LINE"), ("R=1", "it is LINE"), ("x:R=1", "it is LINE"), ("6:R=1,,2", "it is LINE"),
-            ("3:Q=1", "line 3, a first miscellaneous card, has 0 fields named Q"),
-            ("6:Q=1", "a series branch card, has 0 fields named Q; it has type, R, L, C"),
+            ("3:Q=1", "line 3, a first miscellaneous card, has no field named Q"),
+            ("6:Q=1", r"a series branch card, has no field named Q; it has type \(TY\), R, L, C"),
             ("1:R=1", "it is no card"), ("9:R=1", "it is the end of a section"), ("99:R=1", "it is no card"),
             ("99:1-2=1", "has lines 1 to 17"), ("6:0-2=1", "they lie from 1 to 80"), ("6:9-2=1", "they lie from 1 to 80"),
             ("6:R=1234567", "1234567 is longer than columns 27 to 32"), ("6,14:1-2=7,6,x=3", "x=3 is longer"),
@@ -303,6 +317,7 @@ class Parts(unittest.TestCase):
         self.assertIn("5 rows: a.study/summary, a.study/rows.csv\n", out)
         self.assertRegex(out, r"ANY V \(pu\) +3.5 +4.5 +4.5  2")
         self.assertTrue((self.place / "a.study" / "peaks.png").read_bytes().startswith(b"\x89PNG"))
+        self.assertIn("peak of V B (pu)", (self.place / "a.study" / "peaks.html").read_text())
         status, _, told = self.run_words("a.case", "a.times")
         self.assertEqual((status, told), (2, "emtp study: a.study is there: --resume goes on with it, or remove it\n"))
 
@@ -329,11 +344,17 @@ class Parts(unittest.TestCase):
         self.assertEqual((status, told), (2, "emtp study: s is of other files, of other words or of another program\n"))
 
     def test_refused_row_has_its_own_line(self):
-        (self.place / "a.times").write_text("# a\n.1 *\n\n.2 *\nbad *\n")
+        (self.place / "a.times").write_text("# a\n.1 *\n\n.2 *\nbad * * * * *\n")
         status, _, told = self.run_words("a.case", "a.times", "--jobs", "3")
         self.assertEqual(status, 2)
-        self.assertTrue(told.endswith("emtp study: a.times: line 5, item 1: bad *\n"), told)
+        self.assertTrue(told.endswith("emtp study: a.times: line 5, item 1: bad * * * * *\n"), told)
         self.assertFalse((self.place / "a.study").exists())
+
+    def test_table_of_another_case(self):
+        (self.place / "a.times").write_text("bad * .1 *\n")
+        status, _, told = self.run_words("a.case", "a.times")
+        self.assertEqual(status, 2)
+        self.assertTrue(told.endswith("line 1, item 1: bad * .1 *: 6 items, for 3 time switches; here 4\n"), told)
 
     def test_this_machine_in_a_list_of_machines(self):
         (self.place / "machines").write_text("2/:\n")
@@ -459,7 +480,7 @@ class Whole(unittest.TestCase):
 
     def test_values_alone(self):
         out, _ = self.run_words("a.case", "--vary", "7:R=1.,3.", "--base", "100")
-        self.assertEqual(out, "2 cases: a.study/cases.csv\ndrawn: a.study/cases.png\n")
+        self.assertEqual(out, "2 cases: a.study/cases.csv\ndrawn: a.study/cases.png\ndrawn: a.study/cases.html\n")
         self.assertTrue((self.place / "a.study" / "cases.png").read_bytes().startswith(b"\x89PNG"))
         rows = table_of((self.place / "a.study" / "cases.csv"), csv.DictReader)
         for row in rows:

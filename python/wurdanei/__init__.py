@@ -13,7 +13,7 @@ if TYPE_CHECKING:
     from .case import Case, CaseError
     from .record import Record, RecordError, read
 
-__version__ = "1.1"
+__version__ = "1.2"
 __all__ = ["Case", "CaseError", "Record", "RecordError", "read"]
 
 _PLACES = {"Case": "case", "CaseError": "case", "Record": "record", "RecordError": "record", "read": "record"}

@@ -16,6 +16,7 @@ COMMANDS = {  # the word, its module, what it does
     "ct": ("current_transformers", "writes the secondary currents of saturable current transformers"),
     "lineconst": ("lineconst", "computes the constants of an overhead line from its tower"),
     "locate": ("locate", "finds where a fault was, and its resistance, from a measured record"),
+    "lsp": ("language_server", "serves an editor: marks, hints, quick fixes and names"),
     "play": ("play", "makes measured voltages or currents the sources of a case"),
     "plot": ("plot", "draws a record, a scan or a batch as a picture or a page"),
     "relay": ("relay", "impedances, zones, overcurrent and differential current of a record"),
@@ -64,11 +65,16 @@ def main(words: list[str]) -> int:
     return 2
 
 
-def entry() -> None:
-    """The package as a program; names of another alphabet than the terminal's are printed all the same."""
+def prepare() -> None:
+    """Names of another alphabet than the terminal's are printed all the same."""
     for stream in (sys.stdout, sys.stderr):
         if isinstance(stream, io.TextIOWrapper):
             stream.reconfigure(errors="backslashreplace")
+
+
+def entry() -> None:
+    """The package as a program."""
+    prepare()
     sys.exit(main(sys.argv[1:]))
 
 

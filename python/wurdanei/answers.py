@@ -35,7 +35,7 @@ REASONS = {
     "BadExpression": "no expression goes on so",
     "TooManySamples": "the record would have more than 4,000,000 values",
     "Size": "the case has more than 500 nodes",
-    "NoSource": "the case has no cosine source with a frequency above 0",
+    "NoSource": "the case has no cosine source with a frequency above 0; a smooth cosine is one of the control: take `cosine`",
     "Probe": "a scan wants one source alone: a cosine current source with phase 0 and an amplitude above 0",
     "Control": "a steady state has no control",
     "Switch": "a steady state has no valves and no controlled switches",

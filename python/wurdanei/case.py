@@ -20,7 +20,6 @@ from __future__ import annotations
 import contextlib
 import dataclasses
 import difflib
-import fcntl
 import os
 import pathlib
 import typing
@@ -403,11 +402,11 @@ class Case(Compound):
         return f"; an inductance leaves it by its current ({limits}): with form='flux' it doesn't"
 
     def steady(self) -> Steady:
-        """The voltages of the nodes in the steady state of the frequency of its sources (docs/phasor.md)."""
+        """The voltages of the nodes in the steady state of the frequency of its sources (docs/tools.md)."""
         return steady_of(self._answer(["phasor"], plain=True))
 
     def scan(self, first: int, last: int, step: int) -> Scan:
-        """The impedance that the one source sees, from a first to a last frequency in whole Hz (docs/phasor.md)."""
+        """The impedance that the one source sees, from a first to a last frequency in whole Hz (docs/tools.md)."""
         words = [str(_whole(it, "a frequency", 1, 10**7)) for it in (first, last, step)]
         if first > last or (last - first) // step + 1 > 10_000:
             raise CaseError(
@@ -419,7 +418,7 @@ class Case(Compound):
     def batch(
         self, closings: typing.Sequence | np.ndarray, openings: typing.Sequence | np.ndarray | None = None
     ) -> Batch:
-        """Runs the case for each row of switch times; answers the peaks of its channels (docs/batch.md).
+        """Runs the case for each row of switch times; answers the peaks of its channels (docs/tools.md).
 
         `closings` and `openings` have shape (rows, switches), or (rows,) for one, in s: the times of the time
         switches that are tied to no other one, in the order of their calls. nan keeps the switch's own time; an
@@ -591,7 +590,12 @@ def _save(folder: str, stem: str, files: dict[str, bytes]) -> None:
 
 @contextlib.contextmanager
 def _locked(folder: str) -> typing.Iterator[None]:
-    """Alone with a folder, among those that ask for it so."""
+    """Alone with a folder, among those that ask for it so; some systems have no locks of folders."""
+    if os.name == "nt":
+        yield
+        return
+    import fcntl
+
     opened = os.open(folder, os.O_RDONLY)
     try:
         with contextlib.suppress(OSError):  # some file systems have no locks
@@ -644,7 +648,7 @@ def _ruled(lines: list[Written | str]) -> list[Written | str]:
     for line in lines:
         if isinstance(line, Written):
             if line.kind.name != before and not line.text.endswith("9999"):
-                found.append("C " + line.kind.legend()[2:])
+                found.append(line.kind.comment())
             before = line.kind.name
         elif not line.startswith("$"):
             before = None

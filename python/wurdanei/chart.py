@@ -21,7 +21,7 @@ def draw_table(parameters: Mapping[str, Column], measured: Mapping[str, Column],
 
     Parameters that don't change don't count. RecordError where there are more than two, or where they are no numbers.
     """
-    varied = {name: np.asarray(values) for name, values in parameters.items() if len(set(map(str, values))) > 1}
+    varied = changing(parameters)
     if wrong := [name for name, values in varied.items() if values.dtype.kind not in "biuf"]:
         raise RecordError(f"{wrong[0]} has values that are no numbers, so nothing is drawn over it")
     if not 1 <= len(varied) <= 2 or not measured:
@@ -43,6 +43,11 @@ def draw_table(parameters: Mapping[str, Column], measured: Mapping[str, Column],
             draw(drawing, path)
         return
     _maps(varied, shown, path)
+
+
+def changing(parameters: Mapping[str, Column]) -> dict[str, np.ndarray]:
+    """The parameters that have more than one value."""
+    return {name: np.asarray(values) for name, values in parameters.items() if len(set(map(str, values))) > 1}
 
 
 def _maps(varied: dict[str, np.ndarray], shown: dict[str, np.ndarray], path: str) -> None:

@@ -93,6 +93,15 @@ class Card:
             line[field.last] = "."
         return "".join(line).rstrip()
 
+    def comment(self) -> str:
+        """The legend as a comment above such cards: a C in column 1, and behind it the word that begins there."""
+        line, first = self.legend(), min(self.fields, key=lambda field: field.first)
+        last = first.last if first.first == 1 else first.first - 1  # of the first field, or of the words before it
+        if last <= 2:
+            return "C " + line[2:]
+        word, fill = (first.label, "-") if first.first == 1 else (line[:last].rstrip(), " ")
+        return f"C {word}"[:last].ljust(last, fill) + line[last:]
+
 
 def with_fields(card: Card, *others: Field) -> Card:
     """The card with these fields in place of those that stand in their columns."""

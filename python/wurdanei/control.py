@@ -362,9 +362,13 @@ class Control:
             raise CaseError(f"{name} is a variable of every case, and no card defines it")
         contents = self._draft.contents
         if name in contents.variables:
-            raise CaseError(f"the variable {name} is there already")
+            maker, call = contents.variables[name], self._draft.call
+            by = f", made by {maker}" if maker else ""
+            at_switch = call is not None and call.name in ("current", "state")
+            cure = "name the other end of the switch" if at_switch else "take another name"
+            raise CaseError(f"the variable {name} is there already{by}; {cure}")
         self._draft.free(name)
-        contents.variables[name] = None
+        contents.variables[name] = self._draft.call
         contents.control = True
         return name
 

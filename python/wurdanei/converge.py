@@ -11,6 +11,7 @@ import csv
 import math
 import os
 import pathlib
+import re
 import sys
 import typing
 from dataclasses import dataclass
@@ -30,6 +31,7 @@ SAME = 1e-4  # of a quantity: differences below it are none
 LEAST_ORDER = 0.5  # below it nothing is extrapolated
 MOST_ORDER = 4.0
 MOST_STEPS, MOST_EVERY = 1_000_000, 10**6
+OFF = re.compile(r"off its characteristic in steps=[1-9]|^warning, .* isn't on the characteristic$")  # of `emtp judge`
 
 
 class ConvergeError(Exception):
@@ -150,7 +152,7 @@ def retimed(own: Deck) -> list[str]:
         if text.kept != step // part:
             raise ConvergeError(f"{own.path}: a step of {step // part:,} ps doesn't stand in the columns of DELTAT")
         lines = list(own.lines)
-        lines[line - 1] = text.text.rjust(8) + first.ljust(16)[8:]
+        lines[line - 1] = text.text.rjust(7).ljust(8) + first.ljust(16)[8:]
         lines[other - 1] = second.ljust(16)[:8] + str(every * part).rjust(8) + second[16:]
         found.append(own.text(lines))
     return found
@@ -289,6 +291,23 @@ def warnings_of(path: str) -> list[str]:
     return [] if ended.status else [f"show warns: {words}" for words in listing.read(ended.note).warnings]
 
 
+def judged(texts: typing.Sequence[str]) -> list[str]:
+    """What `emtp judge` says of the runs of cases at the three steps, where a point lay off its characteristic: a line each.
+
+    Such a point is a false one, and no smaller step mends it. Nothing where there is no emtp_judge, or nothing to judge.
+    """
+    found: list[str] = []
+    for part, text in zip(STEPS, texts if program.has_judge() else ()):
+        with program.room() as room:
+            (pathlib.Path(room) / "case.case").write_text(text, encoding="latin-1", newline="")
+            if program.run(["judge", "--count", "case.case"], room).note == "0\n":
+                return []
+            ended = program.run(["judge", "case.case"], room)
+        lines = () if ended.status else ended.note.splitlines()
+        found += [f"at 1/{part} of the step: {it}" for it in lines if OFF.search(it)]
+    return found
+
+
 def _words() -> argparse.ArgumentParser:
     words = argparse.ArgumentParser(
         prog="emtp converge",
@@ -319,7 +338,7 @@ def report_of(path: str, asked: typing.Sequence[str] = ()) -> Report:
     if not records[0].names:
         raise ConvergeError(f"{path} asks for no output")
     names = chosen(list(asked), records[0].names, path) if asked else records[0].names
-    return reported(records, step, names, ended, warnings_of(path))
+    return reported(records, step, names, ended, warnings_of(path) + judged(texts))
 
 
 def main(words: list[str]) -> int:

@@ -109,7 +109,8 @@ def main(words: list[str]) -> int:
     if ending not in (".cfg", ".cff", ".csv"):
         raise RecordError(f"{its.out}: the name ends with none of .cfg, .cff and .csv")
     own = {os.path.realpath(name) for name in (its.record, its.dat or os.path.splitext(its.record)[0] + ".dat")}
-    if own & {os.path.realpath(name) for name in (its.out, os.path.splitext(its.out)[0] + ".dat")}:
+    made = [its.out, *([os.path.splitext(its.out)[0] + ".dat"] if ending == ".cfg" else [])]
+    if own & {os.path.realpath(name) for name in made}:
         raise RecordError(f"{its.out}: this would be written over the record that is read")
     content = converted(record, its)
     for told in record.told + made_up(content, record, its):

@@ -155,7 +155,7 @@ class Contents:
     extras: list[Variable] = field(default_factory=list)
     control_outputs: list[Asked] = field(default_factory=list)
     nodes: dict[str, None] = field(default_factory=dict)  # in the order of their first calls
-    variables: dict[str, None] = field(default_factory=dict)
+    variables: dict[str, Call | None] = field(default_factory=dict)  # and the call that made each
     reserved: dict[str, Call | None] = field(default_factory=dict)  # names that a compound call has made, and that call
     ramps: dict[float, str] = field(default_factory=dict)  # the variables of smooth starts, by their time in s
     control: bool = False

@@ -62,13 +62,15 @@ def kept_of(text: str, scale: int) -> int:
 
 def shown(kept: int, scale: int, unit: str = "") -> str:
     """A kept number with its unit, as a reader writes it."""
-    number = EXACT.scaleb(Decimal(kept), -scale).normalize(EXACT)
-    text = (
-        f"{number:f}"
-        if -6 < number.adjusted() < 7
-        else f"{number:e}".replace("E+", "e").replace("E", "e").replace("e+", "e")
-    )
-    return f"{text} {unit}".rstrip()
+    return f"{brief(EXACT.scaleb(Decimal(kept), -scale))} {unit}".rstrip()
+
+
+def brief(number: Decimal) -> str:
+    """A number in few characters: with a power of ten where it is far from 1."""
+    number = number.normalize(EXACT)
+    if -6 < number.adjusted() < 7:
+        return f"{number:f}"
+    return f"{number:e}".replace("E+", "e").replace("E", "e").replace("e+", "e")
 
 
 def spellings(digits: str, power: int) -> typing.Iterator[str]:

@@ -39,7 +39,7 @@ def run_cases(words: argparse.Namespace, means: Means, names: list[str], cases: 
     print(f"{parts.counted(len(made), 'case')}: {table}")
     if cases.headings and headings:
         columns = {heading: [float(it.get(heading, "nan")) for it in found] for heading in headings}
-        parts.draw_values(cases.parameters(), columns, os.path.join(means.room, "cases.png"))
+        parts.draw_values(cases.parameters(), columns, os.path.join(means.room, "cases"))
     lost = [place for place, part in enumerate(made) if status_of(means.room, part) not in (0, 3)]
     if lost:
         first = lost[0]

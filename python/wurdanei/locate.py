@@ -369,7 +369,7 @@ def parser() -> argparse.ArgumentParser:
     made.add_argument(
         "--grid", metavar="N", type=int, default=6, help="values of each that are tried first; default: 6"
     )
-    made.add_argument("--jobs", metavar="N", type=int, default=len(os.sched_getaffinity(0)), help="runs at a time")
+    made.add_argument("--jobs", metavar="N", type=int, default=program.processors(), help="runs at a time")
     report.add_outputs(made)
     return made
 

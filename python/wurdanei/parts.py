@@ -117,16 +117,17 @@ def note_plan(means: Means, plan: dict) -> None:
         json.dump({**plan, "program": sum_of(program.emtp())}, file)
 
 
-def draw_values(parameters: dict[str, list[float | str]], columns: dict[str, list[float]], path: str) -> None:
-    """The picture of a study over values, where one or two of them change and matplotlib is there."""
+def draw_values(parameters: dict[str, list[float | str]], columns: dict[str, list[float]], stem: str) -> None:
+    """The picture of a study over values, where one or two of them change and matplotlib is there; of one a page too."""
     from . import chart
 
-    try:
-        chart.draw_table(parameters, columns, path)
-    except RecordError as fault:
-        print(f"emtp study: no picture: {fault}", file=sys.stderr)
-    else:
-        print(f"drawn: {path}")
+    for ending in (".png", ".html") if len(chart.changing(parameters)) == 1 else (".png",):
+        try:
+            chart.draw_table(parameters, columns, stem + ending)
+        except RecordError as fault:
+            print(f"emtp study: no picture: {fault}", file=sys.stderr)
+        else:
+            print(f"drawn: {stem}{ending}")
 
 
 def part_names(count: int) -> list[str]:

@@ -7,7 +7,8 @@
 OUT is a picture, NAME.png, or one page that stands alone, NAME.html, with zoom, values under the cursor and a table
 that hides and shows; without OUT it is a picture beside the first file. Times are in seconds from the first sample.
 Channels of one unit stand in one pane, those that would lie flat in one of their own; states, and variables that are
-0 or 1 throughout, are bars below. Where values are secondary, missing or moved, that is said. A scan is drawn as
+0 or 1 throughout, are bars below. Where values are secondary, missing or moved, that is said; and where a record of
+the program has its case of the same name beside it, whether its run has something to judge. A scan is drawn as
 magnitude and angle over the frequency, its resonances marked; a batch as the share of its rows that stay at or below
 a peak, with the value that 2 % of them exceed.
 
@@ -23,7 +24,7 @@ from dataclasses import dataclass, replace
 
 import numpy as np
 
-from . import page, picture
+from . import page, picture, worth
 from .choice import chosen, matching
 from .configuration import RecordError
 from .convert import number as real
@@ -37,6 +38,7 @@ from .summary import batch_drawing, is_summary, print_summary, read_summary, sca
 
 ENDINGS = (".png", ".html", ".htm", ".svg", ".pdf", ".jpg", ".jpeg")
 TOLD_PEAKS = 5
+NAMELESS = "a batch prints no names and no units; --cfg CFG, the record of a run of its case, gives them"
 SEEN = 0.005  # of the greatest line of a spectrum: smaller ones can't be seen
 
 
@@ -79,6 +81,8 @@ def main(words: list[str]) -> int:
     """Runs the command: 0 where it drew."""
     its = parser().parse_intermixed_args(words)
     first, dat, out = files_of(its.files)
+    if first.lower().endswith(".csv"):
+        raise RecordError(f"{first} is a table and no record; the pictures of a study's tables stand beside them")
     summary = is_summary(first)
     if summary and (dat or its.other or its.only or its.fft or its.xy or its.begin is not None or its.end is not None):
         raise RecordError(f"{first} is a summary, of which all is drawn: only OUT and --cfg may stand beside it")
@@ -121,7 +125,13 @@ def summary_drawing(path: str, cfg: str | None) -> Drawing:
     summary = read_summary(path, None if cfg is None else channel_names(cfg), cfg or "")
     print_summary(summary)
     title = os.path.basename(path)
-    return scan_drawing(summary, title) if summary.points else batch_drawing(summary, title)
+    if summary.points:
+        return scan_drawing(summary, title)
+    drawing = batch_drawing(summary, title)
+    if cfg is None:
+        drawing.notes.append(NAMELESS)
+        print(NAMELESS)
+    return drawing
 
 
 def record_drawing(path: str, dat: str | None, its: argparse.Namespace) -> Drawing:
@@ -151,7 +161,7 @@ def record_drawing(path: str, dat: str | None, its: argparse.Namespace) -> Drawi
         drawing = pair_drawing(*signals)
     else:
         drawing = times_drawing(signals)
-    drawing.title, drawing.notes = title, notes + said_of(signals) + drawing.notes
+    drawing.title, drawing.notes = title, notes + said_of(signals) + worth_of(record) + drawing.notes
     for note in drawing.notes:
         print(note)
     return drawing
@@ -204,6 +214,12 @@ def signals_of(record: Record, shift: float, suffix: str, its: argparse.Namespac
         skew = 0.0 if state else record.skew(name)
         signals.append(Signal(name + suffix, record.times + (skew + shift), values, unit, state, skew))
     return signals
+
+
+def worth_of(record: Record) -> list[str]:
+    """Of a record that the program wrote, that its run has something to judge, where the case of its name lies beside it."""
+    told = worth.beside(record.path, record.station, record.device)
+    return [told] if told else []
 
 
 def told_of(record: Record, shift: float) -> list[str]:

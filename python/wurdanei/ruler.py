@@ -46,9 +46,9 @@ def rows_of(card: Card) -> list[tuple[str, str, str, str]]:
 
 
 def text_of(card: Card, comment: bool) -> str:
-    """The ruler of a card; as a comment for a case its legend alone, with a C in place of its first column."""
+    """The ruler of a card; as a comment for a case its legend alone, behind a C."""
     if comment:
-        return "C " + card.legend()[2:] + "\n"
+        return card.comment() + "\n"
     rows = [("columns", "field", "range", "blank"), *rows_of(card)]
     widths = [max(len(row[place]) for row in rows) for place in range(3)]
     table = ["  ".join([*(it.ljust(width) for it, width in zip(row, widths)), row[3]]) for row in rows]

@@ -5,7 +5,7 @@
 makes a case of CASE in which voltage sources join their nodes to ground, current sources and the control are gone, and a
 current of 1 A flows into NODE; standard error tells what was done. Switches stand as at the start; valves and switches of
 the control are left open; arresters and nonlinear reactors are their first segments. Then it is scanned from F0 to F1 by
-DF, in whole hertz, and standard output is that of `emtp scan` (docs/phasor.md). What a scan can't take, as lines with
+DF, in whole hertz, and standard output is that of `emtp scan` (docs/tools.md). What a scan can't take, as lines with
 resistance and three-phase ones, is told in words of the case.
 
 Exit status: 0, or 2 where there is no scan.

@@ -1,6 +1,6 @@
 """Runs one case under many switch times or values, or many cases, on all processors, and joins the answers.
 
-docs/batch.md has the form of a table, docs/study.md what is asked and written.
+docs/tools.md has the form of a table, docs/study.md what is asked and written.
 """
 
 import argparse
@@ -48,8 +48,8 @@ def _words() -> argparse.ArgumentParser:
        emtp study CASE --times N --spread CYCLE SIGMA [..] >TIMES""",
         formatter_class=argparse.RawDescriptionHelpFormatter,
         description=__doc__.split("\n\n", maxsplit=1)[0],
-        epilog="""The first form splits TIMES, a table of any length (docs/batch.md), into parts that `emtp batch` runs, and leaves
-in DIR summary, rows.csv and peaks.png. With --vary it runs the table for each combination of values: summary.1 and so on,
+        epilog="""The first form splits TIMES, a table of any length (docs/tools.md), into parts that `emtp batch` runs, and leaves
+in DIR summary, rows.csv, peaks.png and peaks.html. With --vary it runs the table for each combination of values: summary.1 and so on,
 rows.csv, and values.csv with the statistics of each. The second form runs the case once for each combination, the third
 one each case of a list (a name a line): their records part000001.cfg and .dat and so on, and cases.csv. The fourth form
 writes a table: a row closes its switches at T, plus an offset that is uniform over CYCLE seconds, plus one of each pole
@@ -87,7 +87,7 @@ Exit status: 0, or 2 where a study can't be made, or none of its cases has a rec
         "--jobs",
         metavar="N",
         type=int,
-        default=len(os.sched_getaffinity(0)),
+        default=program.processors(),
         help="so many parts at a time; %(default)s",
     )
     words.add_argument(

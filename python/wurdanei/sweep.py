@@ -254,7 +254,7 @@ def run(
     left = [place for place in range(len(its)) if place not in done]
     tell = _Teller(len(left), progress)
     with program.ended_in_words(), _Nothing() if notes is None else notes.opened() as note:
-        for places, found in _answers(build, measure, its, left, jobs or len(os.sched_getaffinity(0)), executor):
+        for places, found in _answers(build, measure, its, left, jobs or program.processors(), executor):
             for place, row in zip(places, found):
                 done[place] = row
                 note(place, row)

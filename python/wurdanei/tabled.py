@@ -9,7 +9,8 @@ import sys
 from dataclasses import dataclass
 from decimal import Decimal
 
-from . import parts, peaks, picture, program, times, varied
+from . import page, parts, peaks, picture, program, times, varied
+from .deck import Deck
 from .parts import Means, StudyError, status_of, write_text
 from .record import Record, RecordError, read
 from .summary import Summary, batch_drawing
@@ -76,12 +77,22 @@ def check_parts(
         if match := re.match(r"BAD ROW LINE (\d+) ITEM (\d+)$", note):
             line, text = rows[it.first + int(match[1]) - 1]
             shutil.rmtree(means.room)
-            raise StudyError(f"{words.table}: line {line}, item {match[2]}: {text}")
+            raise StudyError(f"{words.table}: line {line}, item {match[2]}: {wrong_items(words.case, text)}")
         if status:
             told = f" with {cases.told(it.case)}" if cases.headings else ""
             raise StudyError(
                 f"{it.name}, {words.case}{told}: status {status}, {note or parts.STATUSES.get(status, '')}"
             )
+
+
+def wrong_items(case: str, text: str) -> str:
+    """What is wrong with a refused row of a table: how many items it has, where these are too few or too many, else its text."""
+    cards = Deck(case).cards("a switch card")
+    switches = sum(card[:2].strip() not in ("11", "13") and card[54:64].strip() != "MEASURING" for _, card in cards)
+    items = len(text.split())
+    if items == 2 * switches:
+        return text
+    return f"{text}: {2 * switches} items, for {switches} time switches; here {items}"
 
 
 def run_table(words: argparse.Namespace, means: Means) -> None:
@@ -142,9 +153,9 @@ def answer(
             f"{heading}: 2 % exceed": [peaks.statistics(its[place]).seldom for its in columns]
             for place, heading in enumerate(headings)
         }
-        parts.draw_values(cases.parameters(), seldom, os.path.join(means.room, "values.png"))
+        parts.draw_values(cases.parameters(), seldom, os.path.join(means.room, "values"))
     else:
-        draw(headings, columns[0], os.path.join(means.room, "peaks.png"))
+        draw(headings, columns[0], os.path.join(means.room, "peaks"))
 
 
 def write_values(path: str, cases: Cases, headings: list[str], columns: list[list[list[Decimal | str]]]) -> None:
@@ -161,13 +172,15 @@ def write_values(path: str, cases: Cases, headings: list[str], columns: list[lis
     print(f"values: {path}")
 
 
-def draw(headings: list[str], columns: list[list[Decimal | str]], path: str) -> None:
-    """The distribution of each channel's peaks, where matplotlib is there."""
+def draw(headings: list[str], columns: list[list[Decimal | str]], stem: str) -> None:
+    """The distribution of each channel's peaks: a picture, where matplotlib is there, and a page."""
     rows = [[float(it) for it in row] for row in zip(*columns)]
     try:
         summary = Summary(peaks=rows, names=headings, units=[""] * len(headings))
-        picture.draw(batch_drawing(summary, os.path.basename(path)), path)
+        drawing = batch_drawing(summary, os.path.basename(stem))
+        page.write(drawing, stem + ".html", True)
+        print(f"drawn: {stem}.html")
+        picture.draw(drawing, stem + ".png")
+        print(f"drawn: {stem}.png")
     except RecordError as fault:
         print(f"emtp study: {fault}", file=sys.stderr)
-    else:
-        print(f"drawn: {path}")

@@ -1,7 +1,7 @@
 """Tables of switch times: rows of scattered closing times, and the rows of a table that is there.
 
 A switch closes at a common time of its row plus an offset of its own; one that is tied closes a while after another one, as
-the main pole of a breaker does after the auxiliary pole of its insertion resistor. docs/batch.md has the form of a table.
+the main pole of a breaker does after the auxiliary pole of its insertion resistor. docs/tools.md has the form of a table.
 """
 
 import math

@@ -54,7 +54,8 @@ def _card_of(deck: Deck, line: int) -> columns.Card:
         return columns.DEVICE if text[8:10].strip() else columns.FORMULA
     if kind == "a branch card":
         if type_of.startswith("-"):
-            return columns.LINE
+            iline = text[50:52].strip()
+            return columns.LINES[int(iline)] if iline in ("1", "2") else columns.LINE
         if type_of in ("98", "99"):
             return columns.NONLINEAR
         vintages = [card for at, card in deck.cards("a vintage card") if at < line]
@@ -71,11 +72,19 @@ def _columns_of(deck: Deck, line: int, field: str) -> tuple[int, int]:
         return first, last
     card = _card_of(deck, line)
     found = [it for it in card.fields if field.casefold() in (it.name.casefold(), it.label.casefold())]
+    # a number goes before what has its label besides, as A of a line before the mark A in column 80
+    found = [it for it in found if it.kind == "number"] or found
     if len(found) != 1:
-        names = ", ".join(dict.fromkeys(it.name for it in card.fields if it.kind in ("number", "whole")))
+        names = ", ".join(dict.fromkeys(_told(it) for it in card.fields if it.kind in ("number", "whole")))
         kind = card.name if card.name.endswith("card") else f"{card.name} card"
-        raise VariedError(f"line {line}, a {kind}, has {len(found)} fields named {field}; it has {names}")
+        many = f"{len(found)} fields" if found else "no field"
+        raise VariedError(f"line {line}, a {kind}, has {many} named {field}; it has {names}")
     return found[0].first, found[0].last
+
+
+def _told(field: columns.Field) -> str:
+    """The name of a field, with its label in the ruler where this is another word."""
+    return field.name if field.label.casefold() == field.name.casefold() else f"{field.name} ({field.label})"
 
 
 def varied_of(deck: Deck, asked: str) -> Varied:
@@ -209,7 +218,8 @@ def windowed(deck: Deck, begin: float) -> dict[str, str]:
     taken = deck.variables() | set(names)
     if clash := [name for name in names if name in deck.variables() and name not in measured]:
         raise VariedError(
-            f"{clash[0]} is a variable of the control too, so its node's voltage can't be taken from a time on"
+            f"{clash[0]} is a variable of the control too, so its node's voltage can't be taken from a time on: "
+            f"join a node of another name by a measuring switch, and ask for that one"
         )
     free = (first + second for first in LETTERS for second in "0123456789" + LETTERS if first + second not in taken)
     channels = {}

@@ -1,110 +1,94 @@
-" What the lines of a case are, as cards.awk tells it, and what that says of the column under the cursor.
-" The columns are those of autoload/emtp/columns.vim.
+" What the lines of a case are, as `emtp show --fields` tells it, and what that says of the column under the cursor.
+" A number has its range, its unit and what it is read as from there; what a name or a type may be is that of
+" autoload/emtp/columns.vim. g:emtp_show names another emtp_show.
 
-let s:sections = ['block', 'control source', '', 'output', '', 'series branch', 'switch', 'source', 'output']
+let s:top = fnamemodify(resolve(expand('<sfile>:p')), ':h:h:h:h')
 let s:colours = 4
+let s:turns = 8 " how often it is asked at most: behind each refused card once more
 
-function! s:Blank(text) abort
-  return a:text =~# '^ *$'
-endfunction
-
-function! s:Type(line) abort
-  return str2nr(substitute(strpart(a:line, 0, 2), ' ', '', 'g'))
-endfunction
-
-" The kind of a card in a section, counted from 0, where the fields of series branches may be wide.
-function! s:Card(at, line, wide) abort
-  let type = s:Type(a:line)
-  if a:at == 2
-    return s:Blank(strpart(a:line, 8, 2)) ? 'formula' : 'device'
-  elseif a:at == 5
-    return type < 0 ? 'line' : type >= 98 ? 'nonlinear branch' : a:wide ? 'wide series branch' : 'series branch'
-  elseif a:at == 6
-    return type > 0 ? 'valve' : 'switch'
+" The program that tells it.
+function! s:Program() abort
+  if !exists('s:program')
+    let s:program = get(g:, 'emtp_show', empty($EMTP_SHOW) ? get(systemlist(shellescape(s:top . '/program') . ' emtp_show'), 0, '') : $EMTP_SHOW)
   endif
-  return s:sections[a:at]
+  return s:program
 endfunction
 
-" The kinds of all lines: that of a card with fields, `C` of a comment, or nothing.
-function! s:Kinds() abort
-  if get(b:, 'emtp_tick', -1) == b:changedtick
-    return b:emtp_kinds
+" What is told of a field that holds a number: its name, its range with the unit, what it is read as. Else nothing.
+function! s:Number(parts) abort
+  let [unit, span, value] = [get(a:parts, 4, ''), get(a:parts, 5, ''), get(a:parts, 6, '')]
+  if span ==# ''
+    return ''
   endif
-  let [place, at, wide, coefficients, points] = ['begin', 5, 0, 0, '']
-  let kinds = []
-  for line in getline(1, '$')
-    let kind = ''
-    let ends = line =~# '^BLANK' || s:Blank(line)
-    if line =~# '^C\( \|$\)'
-      let kind = 'C'
-    elseif place ==# 'begin'
-      let place = ends ? 'begin' : 'first'
-    elseif place ==# 'first' && line =~# '^RESIDUAL TOLERANCE'
-      let kind = 'tolerance'
-    elseif place ==# 'first'
-      let [kind, place] = ['first miscellaneous card', 'second']
-    elseif place ==# 'second'
-      let [kind, place] = ['second miscellaneous card', 'third']
-    elseif place ==# 'third' && line =~# '^TACS HYBRID'
-      let [at, place] = [0, 'sections']
-    else
-      let place = 'sections'
-      if coefficients > 0
-        let kind = 'coefficients'
-        let coefficients -= 1
-      elseif points !=# ''
-        let kind = points
-        let points = str2float(strpart(line, 0, 16)) == 9999 ? '' : points
-      elseif at > 8
-        let kind = ''
-      elseif ends
-        let at += 1
-      elseif at == 5 && line =~# '^\$VINTAGE'
-        let wide = line =~# '1 *$'
-      else
-        let kind = s:Card(at, line, wide)
-        let coefficients = kind ==# 'block' && s:Type(line) > 0 ? 2 : 0
-        if kind ==# 'device' && strpart(line, 8, 2) =~# '5[67]'
-          let points = 'point of a table'
-        elseif kind ==# 'nonlinear branch' && s:Blank(strpart(line, 14, 12))
-          let points = 'point of a characteristic'
-        endif
+  let unit = unit ==# '' || unit ==# 'whole' ? '' : ' ' . unit
+  let span = substitute(span, '^[^,]*', '\0' . unit, '')
+  return a:parts[2] . ', ' . span . (value ==# '' ? '' : ', read as ' . value)
+endfunction
+
+" Adds what is told of these lines, and returns the number of a line behind which nothing is told, or 0.
+function! s:Add(told, lines) abort
+  let [at, refused, file] = [0, 0, tempname()]
+  call writefile(a:lines, file)
+  let answer = systemlist(shellescape(s:Program()) . ' --fields ' . shellescape(file))
+  call delete(file)
+  for text in answer
+    let parts = split(text, "\t", 1)
+    if parts[0] ==# 'refused'
+      let refused = str2nr(parts[1])
+    elseif text =~# '^\d\+\t' && len(parts) == 3
+      let at = str2nr(parts[0])
+      let new = !has_key(a:told, at)
+      if new
+        let a:told[at] = {'kind': parts[1], 'legend': parts[2], 'fields': []}
       endif
+    elseif parts[0] ==# '' && len(parts) > 3 && new
+      let [first, last] = split(parts[1], '-')
+      call add(a:told[at].fields, [str2nr(first), str2nr(last), parts[2], s:Number(parts)])
     endif
-    call add(kinds, kind)
   endfor
-  let [b:emtp_kinds, b:emtp_tick] = [kinds, b:changedtick]
-  return kinds
+  return at > refused ? 0 : refused
 endfunction
 
-" The kind of a line's card; nothing where it has no fields.
-function! emtp#Kind(number) abort
-  let kind = get(s:Kinds(), a:number - 1, '')
-  return kind ==# 'C' ? '' : kind
+" What is told of each line by its number: its kind, the names over its columns, and its fields. A comment has no entry.
+function! s:Told() abort
+  if get(b:, 'emtp_tick', -1) == b:changedtick
+    return b:emtp_told
+  endif
+  let [lines, told] = [getline(1, '$'), {}]
+  for turn in range(s:turns)
+    let refused = s:Add(told, lines)
+    if !refused || refused >= len(lines)
+      break
+    endif
+    let lines[refused - 1] = 'C' " a comment in its place: the lines behind are read as if the card weren't there
+  endfor
+  let [b:emtp_told, b:emtp_tick] = [told, b:changedtick]
+  return told
 endfunction
 
 " What stands in the column under the cursor.
 function! emtp#Field() abort
-  let kind = emtp#Kind(line('.'))
-  if kind ==# ''
+  let here = get(s:Told(), line('.'), {})
+  if empty(get(here, 'fields', []))
     return ''
   endif
   let column = virtcol('.')
-  for [first, last, what] in g:emtp#columns#fields[kind]
+  for [first, last, name, number] in here.fields
     if first <= column && column <= last
-      return kind . ', ' . first . (first < last ? '-' . last : '') . ': ' . what
+      let what = number !=# '' ? number : get(get(g:emtp#columns#fields, here.legend, {}), first . '-' . last, name)
+      return here.kind . ', ' . first . (first < last ? '-' . last : '') . ': ' . what
     endif
   endfor
-  return kind . ': not read'
+  return here.kind . ': not read'
 endfunction
 
 " Sets the names of the fields above the line of the cursor, as a comment.
 function! emtp#Ruler() abort
-  let kind = emtp#Kind(line('.'))
-  if kind ==# ''
+  let legend = get(get(s:Told(), line('.'), {}), 'legend', '')
+  if legend ==# ''
     echo 'This line has no fields.'
   else
-    call append(line('.') - 1, 'C ' . strpart(g:emtp#columns#legends[kind], 2))
+    call append(line('.') - 1, 'C ' . strpart(legend, 2))
   endif
 endfunction
 
@@ -124,15 +108,15 @@ function! emtp#Colour() abort
   endif
   call emtp#Clear()
   let w:emtp_seen = seen
-  let kinds = s:Kinds()
-  for number in range(line('w0'), min([line('w$'), len(kinds)]))
-    let kind = kinds[number - 1]
-    if kind ==# '' || kind ==# 'C'
-      call add(w:emtp_matches, matchaddpos(kind ==# 'C' ? 'EmtpComment' : 'EmtpHead', [number]))
-      continue
+  let told = s:Told()
+  let end = max(map(keys(told), 'str2nr(v:val)'))
+  for number in range(line('w0'), min([line('w$'), end]))
+    let fields = has_key(told, number) ? told[number].fields : []
+    if empty(fields)
+      call add(w:emtp_matches, matchaddpos(has_key(told, number) ? 'EmtpHead' : 'EmtpComment', [number]))
     endif
     let turn = 0
-    for [first, last, what] in g:emtp#columns#fields[kind]
+    for [first, last, name] in fields
       call add(w:emtp_matches, matchaddpos('EmtpField' . turn, [[number, first, last - first + 1]]))
       let turn = (turn + 1) % s:colours
     endfor

@@ -28,6 +28,7 @@ class Bank:
     c_uf: float
     amplitude_a: float
     delta: bool
+    told: tuple[str, ...] = ()  # nothing of it is typical
 
     def lines(self) -> list[str]:
         """A table of what was made."""
@@ -51,11 +52,12 @@ class Reactor:
     r_ohm: float
     amplitude_a: float
     points: tuple[tuple[float, float], ...]
+    told: tuple[str, ...] = ()
 
     def lines(self) -> list[str]:
-        """A table of what was made."""
+        """A table of what was made, and what is told."""
         head = f"{self.l_mh:.6g} mH and {self.r_ohm:.4g} ohm from a phase to ground, {self.amplitude_a:.5g} A crest"
-        return [head, *(f"{amperes:10.6g} A  {webers:8.6g} Wb" for amperes, webers in self.points)]
+        return [head, *(f"{amperes:10.6g} A  {webers:8.6g} Wb" for amperes, webers in self.points), *self.told]
 
 
 def reactor(
@@ -64,13 +66,13 @@ def reactor(
     *,
     hz: float = 50.0,
     knee: float | None = None,
-    saturated: float = 0.3,
+    saturated: float | None = None,
     loss: float = 0.0,
 ) -> Reactor:
     """A three-phase shunt reactor of so many Mvar at so many kV, phase to phase: L = U^2/(w Q).
 
     `knee` is the flux at which it saturates, in units of that of rated voltage, and `saturated` its inductance beyond in
-    units of the one below (0.3 is typical of gapped cores); `loss` is the loss over the rated power, as R in series.
+    units of the one below (0.3 without it, which is typical of gapped cores and not of the plate); `loss` is the loss over the rated power, as R in series.
     """
     _above(mvar=mvar, kv=kv, hz=hz)
     w = 2 * math.pi * hz
@@ -78,15 +80,20 @@ def reactor(
     amperes = 1e3 * math.sqrt(2 / 3) * mvar / kv
     if not 0 <= loss < 1:
         raise DataError("loss is a part of the rated power, from 0 to below 1")
-    points = [(amperes, henry * amperes)]
+    points, told = [(amperes, henry * amperes)], []
     if knee is not None:
-        _above(knee=knee, saturated=saturated)
-        if saturated >= 1:
+        beyond = 0.3 if saturated is None else saturated
+        _above(knee=knee, saturated=beyond)
+        if beyond >= 1:
             raise DataError("saturated is below 1: the inductance beyond the knee is less than before")
         first = (knee * amperes, knee * henry * amperes)
-        points = [first, (2 * first[0], first[1] * (1 + saturated))]
+        points = [first, (2 * first[0], first[1] * (1 + beyond))]
+        if saturated is None:
+            told.append(
+                "beyond the knee a typical inductance of gapped cores, 0.3 of that below: `saturated` has the plate's"
+            )
     rounded = tuple((float(f"{i:.9g}"), float(f"{flux:.9g}")) for i, flux in points)
-    return Reactor(1e3 * henry, loss * w * henry, amperes, rounded)
+    return Reactor(1e3 * henry, loss * w * henry, amperes, rounded, tuple(told))
 
 
 @dataclass(frozen=True)

@@ -22,6 +22,7 @@ class Source3:
     r_ohm: float
     l_mh: float
     x0x1: float
+    told: tuple[str, ...] = ()  # nothing of it is typical
 
     @property
     def z_ohm(self) -> complex:

@@ -24,6 +24,7 @@ class Transformer:
     l_mh: float
     core_ohm: float
     points: tuple[tuple[float, float], ...]
+    told: tuple[str, ...] = ()
 
     @property
     def most_behind_mh(self) -> float:
@@ -36,7 +37,7 @@ class Transformer:
         return 3 if self.group.startswith("D") else 1
 
     def lines(self) -> list[str]:
-        """A table of what was made."""
+        """A table of what was made, and what is told."""
         (amperes, webers), knee = self.points[0], len(self.points) > 1
         return [
             f"{self.group}, a winding: ratio {self.ratio:.6g}, leakage {self.r_ohm:.5g} ohm and {self.l_mh:.5g} mH on the "
@@ -44,6 +45,7 @@ class Transformer:
             f"across a primary winding {webers / amperes:.5g} H{' up to the knee' if knee else ''}"
             + (f" and {self.core_ohm:.5g} ohm" if self.core_ohm else ""),
             f"stable by the control up to {self.most_behind_mh:.4g} mH behind each primary node",
+            *self.told,
         ]
 
 
@@ -86,12 +88,15 @@ def transformer(
     henry = across / magnetising / w
     flux = volts / w
     amperes = flux / henry
-    points = [(amperes, flux)]
+    points, told = [(amperes, flux)], []
     ratio = secondary / primary * (math.sqrt(3) if group.startswith("YNd") else 1 / math.sqrt(3) if delta else 1)
     if knee is not None:
         if not knee > 0.5:
             raise DataError("knee is the flux of saturation in units of the rated one")
         air = (2.5 if saturated is None else saturated) * x / w / ratio**2
         points = [(knee * amperes, knee * flux), (knee * amperes + knee * flux / air, 2 * knee * flux)]
+        if saturated is None:
+            told.append("beyond the knee a typical inductance, 2.5 of the leakage: `saturated` has the plate's")
     rounded = tuple((float(f"{i:.9g}"), float(f"{it:.9g}")) for i, it in points)
-    return Transformer(group, ratio, ur * base, 1e3 * x / w, across / active if active else 0.0, rounded)
+    core_ohm = across / active if active else 0.0
+    return Transformer(group, ratio, ur * base, 1e3 * x / w, core_ohm, rounded, tuple(told))

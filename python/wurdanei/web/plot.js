@@ -31,7 +31,8 @@ class Plot {
     this.wanted = "";
     this.tells = null;
     this.columns = new WeakMap(); // of values: their least and greatest in each column of pixels, for a view
-    new ResizeObserver(() => this.redraw()).observe(canvas);
+    this.stands = false; // whether the canvas has what is to be seen, but for its size
+    new ResizeObserver(() => { if (!this.stands || !this.fits(canvas)) this.redraw(); }).observe(canvas);
     this.listen();
   }
 
@@ -135,6 +136,7 @@ class Plot {
   // Draws in the next frame: all, or the cursor alone.
   redraw(what = "all") {
     const waits = this.wanted;
+    if (what === "all") this.stands = false;
     if (waits !== "all") this.wanted = what;
     if (waits) return;
     requestAnimationFrame(() => {
@@ -342,16 +344,27 @@ class Plot {
   sized(canvas) {
     const { clientWidth, clientHeight } = this.canvas, ratio = window.devicePixelRatio || 1;
     if (!clientWidth || !clientHeight) return null;
-    const width = Math.round(clientWidth * ratio), height = Math.round(clientHeight * ratio);
-    if (canvas.width !== width || canvas.height !== height) [canvas.width, canvas.height] = [width, height];
+    if (!this.fits(canvas)) [canvas.width, canvas.height] = this.pixels();
     const to = canvas.getContext("2d");
     to.setTransform(ratio, 0, 0, ratio, 0, 0);
     return { to, width: clientWidth, height: clientHeight };
   }
 
+  // How many pixels a canvas has for the size that it is seen in, and whether it has them.
+  pixels() {
+    const ratio = window.devicePixelRatio || 1;
+    return [Math.round(this.canvas.clientWidth * ratio), Math.round(this.canvas.clientHeight * ratio)];
+  }
+
+  fits(canvas) {
+    const [width, height] = this.pixels();
+    return canvas.width === width && canvas.height === height;
+  }
+
   draw() {
     const own = this.sized(this.canvas);
     if (!own) return;
+    this.stands = true;
     this.drawnTheme = Plot.theme(this.canvas);
     this.areas = this.paint(own.to, own.width, own.height, this.drawnTheme);
   }
