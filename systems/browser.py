@@ -241,6 +241,26 @@ class Browser:
         for kind in ("dragEnter", "dragOver", "drop"):
             self.call("Input.dispatchDragEvent", type=kind, x=300, y=300, data=dropped)
 
+    def spent(self) -> dict[int, float]:
+        """Of each process that has a page of this browser: the seconds of a processor that its first thread, which reads
+        and draws, has taken."""
+        below, todo = {}, [self.child.pid]
+        for own in Path("/proc").glob("[0-9]*"):
+            try:
+                below.setdefault(int((own / "stat").read_text().rsplit(")", 1)[1].split()[1]), []).append(int(own.name))
+            except OSError:  # it has ended
+                continue
+        found = {}
+        while todo:
+            own = todo.pop()
+            todo += below.get(own, [])
+            try:
+                if b"--type=renderer" in Path(f"/proc/{own}/cmdline").read_bytes():
+                    found[own] = int(Path(f"/proc/{own}/task/{own}/schedstat").read_text().split()[0]) / 1e9
+            except OSError:
+                continue
+        return found
+
     def saved(self, name: str, seconds: float = 20) -> bytes:
         """The bytes of a file that the page saved."""
         until = time.monotonic() + seconds

@@ -5,7 +5,8 @@
     systems/build.py systems FOLDER   emtp.exe (Windows), emtp-aarch64 and emtp-x86_64 (Linux, static)
     systems/build.py anew FILE        emtp.html once more, of its parts as they stand and the module that is in it
     systems/build.py same FILE        whether emtp.html is that
-    systems/build.py proved FILE      whether its module is that of the library, behind `rt ci` in a fresh checkout
+    systems/build.py proved FILE [FOLDER]   whether its module is that of the library, behind `rt ci` in a fresh checkout; where a
+                                      FOLDER is named, it gets the programs of other systems, each made twice, alike
 
 The first two begin with the LLVM module that the toolchain's compiler makes of the library once it is proved: `rt lib` proves and
 builds it, and a second build, over what the first one kept, hands the same module out (its archive has to be the same, byte
@@ -78,7 +79,14 @@ AARCH64 = Target(
 )
 # each program: its name, its target, what links it with which flags, and Debian's package
 PROGRAMS = [
-    ("emtp.exe", WINDOWS, "x86_64-w64-mingw32-gcc", ("-municode", "-static", "-s"), "gcc-mingw-w64-x86-64"),
+    # no time stamp, so that the same sources give the same bytes
+    (
+        "emtp.exe",
+        WINDOWS,
+        "x86_64-w64-mingw32-gcc",
+        ("-municode", "-static", "-s", "-Wl,--no-insert-timestamp"),
+        "gcc-mingw-w64-x86-64",
+    ),
     ("emtp-aarch64", AARCH64, "aarch64-linux-gnu-gcc", ("-static", "-s"), "gcc-aarch64-linux-gnu"),
     ("emtp-x86_64", LINUX, "gcc", ("-static", "-s"), "gcc and libc6-dev"),
 ]
@@ -298,11 +306,16 @@ def in_room():
         yield Path(room)
 
 
-def page_module(made: Callable[[Path], Path], room: Path) -> bytes:
-    """The page's module of WebAssembly, of the compiler's module. What is missing for it is said before an hour of proving."""
+def module_text(made: Callable[[Path], Path], room: Path) -> str:
+    """The compiler's module, for a page. What is missing for that is said before an hour of proving."""
     if not shutil.which("wasm-opt"):
         raise Lacking("no page: wasm-opt isn't there, which gives its module addresses of 32 bits (Debian: binaryen)")
-    return lowered(wasm(made(room).read_text(encoding="utf-8"), room), room)
+    return made(room).read_text(encoding="utf-8")
+
+
+def page_module(text: str, room: Path) -> bytes:
+    """The page's module of WebAssembly, of the compiler's module."""
+    return lowered(wasm(text, room), room)
 
 
 # ---- what is made
@@ -311,7 +324,7 @@ def page_module(made: Callable[[Path], Path], room: Path) -> bytes:
 def dist(folder: Path) -> list[Path]:
     """Makes the page in a folder."""
     with in_room() as room:
-        made = page_module(module, room)
+        made = page_module(module_text(module, room), room)
         version = ran(os.environ.get("RT", "rt"), "version").strip().split("\n")[0]
         made_page = pages.page(TOP, pages.packed(made), f"the proved library emtp_page, by {version}")
     folder.mkdir(parents=True, exist_ok=True)
@@ -339,13 +352,14 @@ def same(file: Path) -> list[Path]:
     return [file]
 
 
-def proved(file: Path) -> list[Path]:
-    """Holds the module of a page to the library as `rt ci` has proved it."""
+def proved(file: Path, folder: Path | None = None) -> list[Path]:
+    """Holds the module of a page to the library as `rt ci` has proved it, and makes programs of it where a folder is given."""
     there = pages.unpacked(pages.module_of(file.read_text(encoding="utf-8")))
     with in_room() as room:
-        if page_module(proved_module, room) != there:
+        text = module_text(proved_module, room)
+        if page_module(text, room) != there:
             raise Lacking(f"the module in {file} isn't that of the proved library: ./build --dist")
-    return [file]
+        return [file, *(alike(text, room, folder) if folder else [])]
 
 
 def linked(name: str, target: Target, linker: str, flags: tuple[str, ...], text: str, room: Path, folder: Path) -> Path:
@@ -359,31 +373,45 @@ def linked(name: str, target: Target, linker: str, flags: tuple[str, ...], text:
     return made
 
 
-def systems(folder: Path) -> list[Path]:
+def programs(text: str, room: Path, folder: Path) -> list[Path]:
     """Makes the programs of other systems in a folder, as far as their linkers are there."""
     folder.mkdir(parents=True, exist_ok=True)
     made = []
-    with in_room() as room:
-        text = module(room).read_text(encoding="utf-8")
-        for name, target, linker, flags, package in PROGRAMS:
-            if shutil.which(linker):
-                made.append(linked(name, target, linker, flags, text, room, folder.resolve()))
-            else:
-                say(f"{name} isn't made: {linker} isn't there (Debian: {package})")
+    for name, target, linker, flags, package in PROGRAMS:
+        if shutil.which(linker):
+            made.append(linked(name, target, linker, flags, text, room, folder.resolve()))
+        else:
+            say(f"{name} isn't made: {linker} isn't there (Debian: {package})")
     return made
+
+
+def alike(text: str, room: Path, folder: Path) -> list[Path]:
+    """The same, each made twice, whose bytes have to be the same."""
+    made = programs(text, room, folder)
+    for one, other in zip(made, programs(text, room, room / "again")):
+        if one.read_bytes() != other.read_bytes():
+            raise Lacking(f"{one.name}, made twice, has other bytes")
+    return made
+
+
+def systems(folder: Path) -> list[Path]:
+    """Makes the programs of other systems in a folder."""
+    with in_room() as room:
+        return programs(module(room).read_text(encoding="utf-8"), room, folder)
 
 
 def main() -> int:
     words = sys.argv[1:]
-    kinds = {"page": dist, "systems": systems, "anew": anew, "same": same, "proved": proved}
+    kinds: dict[str, Callable[..., list[Path]]] = {"page": dist, "systems": systems, "anew": anew, "same": same, "proved": proved}
     if words == ["--help"]:
         print(__doc__.strip())
         return 0
-    if len(words) != 2 or words[0] not in kinds:
+    most = 3 if words[:1] == ["proved"] else 2
+    if not 2 <= len(words) <= most or words[0] not in kinds:
         print(__doc__.strip(), file=sys.stderr)
         return 1
     try:
-        for made in kinds[words[0]](Path(words[1])):
+        for made in kinds[words[0]](*map(Path, words[1:])):
             say(f"{made}: {made.stat().st_size:,} bytes")
     except (Lacking, OSError, ValueError) as fault:
         say(str(fault))

@@ -17,7 +17,8 @@ from typing import Any
 import tables
 
 PARTS = Path(__file__).resolve().parent / "page"
-SHARED = Path(__file__).resolve().parent.parent / "python" / "wurdanei" / "web"  # what pages of `emtp plot` have too
+PACKAGE = Path(__file__).resolve().parent.parent / "python" / "wurdanei"
+SHARED = PACKAGE / "web"  # what pages of `emtp plot` have too
 # what the page's own script is made of, in order: what needs no page, the plot, the parts of the page; and that of its workers
 PURE = [f"{it}.js" for it in ("record", "cards", "measures", "pictures", "study", "fixes", "markdown")]
 PARTED = (
@@ -32,10 +33,10 @@ PARTED = (
     "meaning",
     "live",
     "results",
+    "worth",
 )
 SCRIPT = [*PURE, *(f"{it}.js" for it in PARTED), "files.js", "manual.js", "form.js", "page.js"]
 WORKER = ["record.js", "call.js", "worker.js"]
-MANUAL = ["cards", "control", "modelling", "recipes", "atp", "batch", "phasor", "audit", "show", "worth", "record"]
 FIRST = "breaker_recovery"  # the example that is open at first
 MOST_GIVEN = 300_000  # bytes of a record that an example brings along at most
 
@@ -57,9 +58,10 @@ def plot() -> list[str]:
 
 
 def manual(top: Path) -> str:
-    """The pages of the manual, packed."""
-    pages = [{"name": it, "text": text(top / "docs" / f"{it}.md")} for it in MANUAL]
-    pages.append({"name": "examples", "text": text(top / "examples" / "README.md")})
+    """The pages of the manual that the page has (`*` in docs/manual.list), packed."""
+    marked = [line.split()[1] for line in text(top / "docs" / "manual.list").splitlines() if line.startswith("* ")]
+    names = {it: "examples" if it == "examples/README.md" else Path(it).stem for it in marked}
+    pages = [{"name": name, "text": text(top / it)} for it, name in names.items()]
     return packed(json.dumps(pages, ensure_ascii=False, separators=(",", ":")).encode())
 
 
@@ -132,8 +134,13 @@ def module_of(made: str) -> str:
 
 def source_of(made: str) -> str:
     """What a page says that its module was made of."""
-    found = re.search(r'"about":"(?:Page \w+, made|Made) of (.*?); the module', made)
+    found = re.search(r'"about":"(?:[^"]*?[Pp]age \w+, made|Made) of (.*?); the module', made)
     return found[1] if found else ""
+
+
+def number() -> str:
+    """The version of Wurdanei, which the package has."""
+    return re.findall(r'^__version__ = "(.*)"$', text(PACKAGE / "__init__.py"), re.M)[0]
 
 
 def sum_of(part: str) -> str:
@@ -146,9 +153,9 @@ def page(top: Path, module: str, source: str) -> str:
     told = tables.tables(top)
     script, style = joined(SCRIPT, True), text(SHARED / "plot.css") + text(PARTS / "page.css")
     body = text(PARTS / "page.html")
-    # the page's version: a sum of all that it is made of
+    # which page of a version it is: a sum of all that it is made of
     version = hashlib.sha256("\0".join([body, script, style, module, source]).encode()).hexdigest()[:8]
-    told["about"] = f"Page {version}, made of {source}; the module has {len(unpacked(module)):,} bytes."
+    told["about"] = f"Wurdanei {number()}, page {version}, made of {source}; the module has {len(unpacked(module)):,} bytes."
     parts = {
         "STYLE_SUM": sum_of(style),
         "SCRIPT_SUM": sum_of(script),

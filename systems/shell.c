@@ -161,7 +161,7 @@ static int files_of(const char *command) {
 
 // Whether a word behind `show` or `judge` says what is asked of the case whose name stands behind it.
 static bool asks_of_case(const char *word) {
-    return !strcmp(word, "--count") || !strcmp(word, "--kinds") || !strcmp(word, "--why") || !strcmp(word, "--samples");
+    return !strcmp(word, "--count") || !strcmp(word, "--kinds") || !strcmp(word, "--why") || !strcmp(word, "--fields") || !strcmp(word, "--samples");
 }
 
 // ---- calls
@@ -202,7 +202,7 @@ static char *first_line(Bytes note) {
 }
 
 // Says what a status means, by the note, the words and the files of its call.
-static void tell(int status, Bytes note, char **words, int count, Bytes names, const Bytes files[MOST_FILES]) {
+static void explain(int status, Bytes note, char **words, int count, Bytes names, const Bytes files[MOST_FILES]) {
     char number[16];
     snprintf(number, sizeof number, "%d", status);
     char **asked = memory((uint64_t)(count + 3) * sizeof *asked);
@@ -232,9 +232,10 @@ static int run(int count, Letter **given) {
     Call *call = shows ? emtp_page_show : judges ? emtp_page_judge : emtp_page_call;
     // Over no files, words that don't fit are refused, and only those that name a file aren't answered.
     Answer answer = make(call, asked, names, files, outputs);
-    if (answer.status == READ_FAULT) {
-        // behind `show --told STATUS NOTE` stand the words of a run, of whose files some may not be there any more
-        bool again = shows && count > 5 && !strcmp(words[1], "--told");
+    // behind `show --told STATUS NOTE` stand the words of a run, of whose files some may not be there any more; of an early end more
+    // is told where they are
+    bool again = shows && count > 5 && !strcmp(words[1], "--told"), ended = again && !strcmp(words[2], "3");
+    if (answer.status == READ_FAULT || ended) {
         int first = again ? 5 : skipped ? count - 1 : 1, read = 0;
         int wanted = again ? count - first : skipped ? 1 : files_of(words[0]);
         char *named[MOST_FILES];
@@ -253,14 +254,14 @@ static int run(int count, Letter **given) {
     if (odd) {
         fputs("A word isn't UTF-8.\n", stderr);
     } else if (judges && status == USAGE) {
-        fputs("Behind judge stand --samples and CASE.\n", stderr);
+        fputs("Behind judge stands CASE, alone or behind --samples or --count.\n", stderr);
     } else if (status != DONE) {
         if (skipped && count == 3 && asks_of_case(words[1])) {
             words[1] = words[2];
             count = 2;
         }
         int said = answer.outputs[2].created ? 2 : 3; // a trial that ends early has a summary
-        tell(status, (Bytes){outputs[said], answer.outputs[said].length}, words, count, names, files);
+        explain(status, (Bytes){outputs[said], answer.outputs[said].length}, words, count, names, files);
     }
     return status;
 }

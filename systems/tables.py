@@ -1,7 +1,8 @@
-"""What the page tells of cards, in the words of docs/.
+"""What the page says of the fields of cards, in the words of docs/.
 
-`tables(top)` reads docs/cards.md and docs/control.md below the folder `top` of the repository: the rulers, which name the
-fields of a card over their columns, and below each the table of these fields.
+Which card a line is, and which fields it has where, the program itself tells the page (`show --fields`). `tables(top)` reads
+docs/cards.md and docs/control.md below the folder `top` of the repository for what these fields are: by the rulers, which name
+the fields of a card over their columns, and below each the table of these fields.
 
 It stops with ValueError where a page has another form than these.
 """

@@ -53,6 +53,7 @@ function openCase(it, runs) {
 
 // The name of the case is another: in the list, the title and the address.
 function named() {
+  results.named(open.name);
   listCases();
   titled();
   const hash = open.kept ? `#kept=${encodeURIComponent(open.name)}` : open.example ? `#${open.example}` : open.hash;

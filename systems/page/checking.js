@@ -7,26 +7,24 @@ async function explained(words, files = []) {
   return told.summary ? Records.text(told.summary).trimEnd() : "";
 }
 
-// Why a card is refused: { line, from, to, text, more }, from the note and from what `show --why` says of the case.
-function refusalOf(note, why) {
-  const found = /^BAD CARD LINE (\d+) COLUMN (\d+) REASON \d+ (\w+)/m.exec(note);
-  if (!found) return null;
-  const line = Number(found[1]), column = Number(found[2]);
+// Why a card is refused: { line, from, to, text, more }, by what `show --fields` says of it.
+function refusalOf({ line, from, to, name, note, why }) {
+  const reason = /^BAD CARD LINE \d+ COLUMN \d+ REASON \d+ (\w+)/.exec(note)?.[1];
   const lines = why.split("\n"), marked = lines.findIndex(text => /^ *\^ /.test(text));
   const said = {
     kind: "refused", line: Math.min(line, editor.count()), text: marked < 0 ? lines[0] : lines[marked].trim().slice(2),
     more: lines.slice(Math.max(marked, 0) + 1).join(" "),
   };
   if (!editor.text().trim()) return { ...said, from: 0, to: 0, text: "there are no cards", more: "New begins with a small whole case." };
-  if (found[3] === "MissingSection" || found[3] === "TooManyLines") return { ...said, from: 0, to: 0 };
-  const card = editor.line(line), field = cards.fieldsAt(editor.kind(line)[1], card, column).find(it => it.from === column);
-  if (found[3] === "ByteOutside" || found[3] === "PastColumn80") return { ...said, from: column, to: column };
+  if (reason === "MissingSection" || reason === "TooManyLines") return { ...said, from: 0, to: 0 };
+  if (reason === "ByteOutside" || reason === "PastColumn80") return { ...said, from, to: from };
+  const card = editor.card(line), field = name && card.fields.find(it => it.from === from);
   if (field) {
-    const takes = cards.describe(field);
-    return { ...said, from: column, to: field.to, text: `${cards.nameOf(field)}: ${said.text}`,
-      more: [takes && `${cards.nameOf(field)} takes: ${takes}.`, said.more].filter(Boolean).join(" ") };
+    const takes = cards.describe(card, field);
+    return { ...said, from, to, text: `${name}: ${said.text}`, more: [takes && `${name} takes: ${takes}.`, said.more].filter(Boolean).join(" ") };
   }
-  return { ...said, from: column, to: column - 1 + Math.max(1, /^\s*\S*/.exec(card.slice(column - 1))[0].length) };
+  const word = /^\s*\S*/.exec(editor.line(line).slice(from - 1))[0];
+  return { ...said, from, to: name ? to : from - 1 + Math.max(1, word.length) };
 }
 
 // The warnings of a listing; of one that names a channel, the line of the card that asks for it.
@@ -42,30 +40,57 @@ const checking = (() => {
   const caller = new Caller(), trying = new Caller();
   let timer = 0, found = [], at = -1, checked = null, under = Promise.resolve();
 
+  // What `show` says behind some words of a text.
+  const shown = (words, text) => caller.call({ show: true, words: [...words, "case"], files: [{ name: "case", bytes: bytesOf(text) }] });
+  const printed = told => Records.text(told.summary ?? told.note ?? new Uint8Array());
+
   async function now() {
     clearTimeout(timer);
     if (!program.module) return;
     const text = editor.text();
     checked = text;
-    const told = await caller.call({ show: true, words: ["case"], files: [{ name: "case", bytes: bytesOf(text) }] });
+    const told = await shown(["--fields"], text);
     if (text !== editor.text()) return;
     if (told.fault) {
       say(told.fault);
       return;
     }
-    const listing = Records.text(told.summary ?? told.note ?? new Uint8Array());
-    const why = told.status === 2 ? await explained(["--why", "case"], [{ name: "case", bytes: bytesOf(text) }]) : "";
-    const kinds = await explained(["--kinds", "case"], [{ name: "case", bytes: bytesOf(text) }]);
+    const answer = cards.read(printed(told));
+    if (told.status === 2) { // too long a file: its note alone is told
+      const note = printed(told), why = printed(await shown(["--why"], text));
+      answer.refused = { line: Number(/LINE (\d+)/.exec(note)?.[1] ?? 1), from: 0, to: 0, name: "", note, why };
+    }
     if (text !== editor.text()) return;
-    editor.setKinds([...kinds.matchAll(/^(\d+)\t(?!due: )(.*)$/gm)].map(it => ({ line: Number(it[1]), kind: it[2] })));
-    const refusal = told.status === 2 ? refusalOf(listing, why) : null;
+    editor.setCards(answer.cards);
+    const listing = printed(await shown([], text));
+    if (text !== editor.text()) return;
+    const refusal = answer.refused && refusalOf(answer.refused);
     found = refusal ? [refusal] : warningsOf(listing);
     at = -1;
     editor.setMarks(found);
     tell();
     results.setListing(listing);
-    live.settled(told.status === 0);
-    if (refusal) mend(refusal, text);
+    live.settled(!refusal);
+    if (!refusal) return;
+    mend(refusal, text);
+    lookBehind(answer, text);
+  }
+
+  // The cards behind a refused one: the program is asked again over a text with a blameless card in its place, some times.
+  async function lookBehind({ cards: found, refused }, text) {
+    const MOST = 20, lines = text.split("\n"), all = new Map(found);
+    for (let round = 0; round < MOST && refused; round++) {
+      const { line } = refused, last = [...all.keys()].at(-1); // where all lines are told, its sense alone is refused
+      const other = last === line ? cards.standIn(lines[line - 1], all.get(line)) : null;
+      if (other === null) break;
+      lines[line - 1] = other;
+      const told = await shown(["--fields"], lines.join("\n"));
+      if (told.fault || text !== editor.text()) return;
+      const answer = cards.read(printed(told));
+      for (const [number, card] of answer.cards) if (number > line) all.set(number, card);
+      ({ refused } = answer);
+    }
+    editor.setCards(all);
   }
 
   const lineRefused = listing => Number(/^BAD CARD LINE (\d+)/m.exec(listing)?.[1] ?? Infinity);
@@ -101,12 +126,12 @@ const checking = (() => {
         made.onclick = press;
         return made;
       };
-      const ruler = editor.kind(it.line)[1];
+      const { section } = editor.card(it.line);
       const more = [
         ...(it.fixes ?? []).map(fix => does(`${fix.label[0].toUpperCase()}${fix.label.slice(1)}`,
           () => editor.change(fix.lines.join("\n")))),
         does("Manual", () => it.kind === "warned" ? manual.show("Warnings", "show")
-          : manual.show(ruler ?? "The order of the cards", ruler ? undefined : "cards")),
+          : manual.show(section ?? "The order of the cards", section ? undefined : "cards")),
       ];
       return make("li", { class: it.kind }, button, more.length ? make("div", { class: "more" }, ...more) : null);
     }));

@@ -35,21 +35,34 @@ const editor = (() => {
     redraw();
   }
 
-  // Another case: the cursor stands on its first branch, so that a ruler is seen.
+  // Another case. Its cursor waits in the first column for what the program says of its lines.
   function setText(value) {
     area.value = value;
     marks = new Map();
+    lines = read = [];
     changed();
-    const branch = Math.max(0, read.findIndex(([kind]) => kind === "a branch card"));
-    area.setSelectionRange(offset(branch + 1, 3), offset(branch + 1, 3));
+    area.setSelectionRange(0, 0);
     area.scrollTop = area.scrollLeft = 0;
   }
 
   function changed() {
-    lines = area.value.split("\n");
-    read = cards.kinds(lines);
+    const now = area.value.split("\n");
+    read = cards.carried(lines, read, now);
+    lines = now;
     redraw();
   }
+
+  // What the program says that the lines are. A cursor that waits goes to the first branch, so that a ruler is seen.
+  function setCards(found) {
+    const waits = !area.selectionStart && !area.selectionEnd && !read.some(it => it.kind && it.kind !== "a comment");
+    read = cards.told(lines, found, read);
+    const branch = read.findIndex(it => it.kind === "a branch card");
+    if (waits && branch >= 0) area.setSelectionRange(offset(branch + 1, 3), offset(branch + 1, 3));
+    redraw();
+    form.follow();
+  }
+
+  const cardAt = line => read[line - 1] ?? cards.UNTOLD;
 
   function redraw() {
     if (frame) return;
@@ -76,7 +89,7 @@ const editor = (() => {
     const end = make("div", { class: "end" });
     end.style.left = `${PAD + 80 * wide - scrollLeft}px`;
     layer.push(end);
-    const fields = cards.fieldsAt(read[line - 1]?.[1], lines[line - 1] ?? "", column);
+    const fields = cards.fieldsAt(cardAt(line), column);
     for (let row = first; row <= last; row++) {
       const own = marks.get(row + 1) ?? [];
       const worst = own.some(it => it.kind === "refused") ? "refused" : own.length ? "warned" : "";
@@ -107,32 +120,32 @@ const editor = (() => {
 
   const TENS = Array.from({ length: 8 }, (_, place) => String(place + 1).padStart(10)).join("");
   function drawRuler(line, column, fields, scrollLeft) {
-    const [kind, ruler] = read[line - 1] ?? ["", null];
+    const card = cardAt(line), { kind, legend, section } = card;
     $("ruler-slide").style.transform = `translateX(${-scrollLeft}px)`;
     $("ruler-tens").textContent = TENS;
     $("ruler-ones").textContent = "1234567890".repeat(8);
-    $("ruler-names").textContent = cards.ruler(ruler);
+    $("ruler-names").textContent = legend;
     const [it] = fields;
     $("ruler-field").style.left = `${((it?.from ?? 1) - 1) * wide}px`;
     $("ruler-field").style.width = `${it ? (it.to - it.from + 1) * wide : 0}px`;
     $("ruler-caret").style.left = `${(column - 1) * wide - 1}px`;
     const told = [make("span", { class: "place", textContent: `line ${line}, column ${column}${overwrites ? ", replacing" : ""}` })];
     if (kind) {
-      const type = cards.typeName(ruler, lines[line - 1]);
+      const type = cards.typeName(card);
       told.push(make("span", { textContent: kind + (type ? ` (${type})` : "") }));
     }
     for (const it of fields) {
-      const columns = it.from === it.to ? `column ${it.from}` : `columns ${it.from}-${it.to}`;
-      told.push(make("span", {}, make("b", { textContent: cards.nameOf(it) }),
-        `, ${columns}${cards.describe(it) ? ": " + cards.describe(it) : ""}`));
+      const columns = it.from === it.to ? `column ${it.from}` : `columns ${it.from}-${it.to}`, value = cards.readAs(it, lines[line - 1]);
+      const said = [cards.describe(card, it), value && `read as ${value}`].filter(Boolean).join("; ");
+      told.push(make("span", {}, make("b", { textContent: it.name }), `, ${columns}${said ? ": " + said : ""}`));
     }
     if (cards.isComment(lines[line - 1] ?? "")) told.push(make("span", { class: "comment", textContent: commentAt(line - 1) }));
-    if (ruler) {
+    if (section) {
       const button = make("button", { type: "button", textContent: "Manual", title: "The section of this card" });
-      button.onclick = () => manual.show(ruler);
+      button.onclick = () => manual.show(section);
       told.push(button);
     }
-    if (ruler && !fields.length) told.push(make("span", { class: "place", textContent: column > 80
+    if (legend && !fields.length) told.push(make("span", { class: "place", textContent: column > 80
       ? "past column 80 only blanks may stand" : "no field reads this column" }));
     if ($("field").textContent !== told.map(it => it.textContent).join("")) $("field").replaceChildren(...told);
   }
@@ -152,18 +165,19 @@ const editor = (() => {
     replace(begin, begin + card.length, made.trimEnd() === "" ? made : made.trimEnd());
   }
 
-  // Puts whole lines above a line, and the cursor into the last of them.
-  function insertLines(line, texts) {
-    const at = offset(line, 1);
+  // Puts whole lines above a line, and the cursor into the last of them, which is to be this card.
+  function insertLines(line, texts, card) {
+    const at = offset(line, 1), last = line + texts.length - 1;
     area.focus();
     replace(at, at, texts.map(text => text + "\n").join(""));
-    goto(line + texts.length - 1, 3);
+    read[last - 1] = card;
+    goto(last, 3);
   }
 
   // Names that begin as what stands before the cursor in a field of a name; the next one at each press.
   let completing = null;
   function complete() {
-    const { line, column } = place(), field = cards.fieldsAt(read[line - 1]?.[1], lines[line - 1], column).find(it => it.unit === "a name");
+    const { line, column } = place(), field = cards.fieldsAt(cardAt(line), column).find(it => cards.isName(cardAt(line), it));
     if (!field) return;
     if (!completing || completing.line !== line || completing.from !== field.from || completing.text !== lines[line - 1]) {
       const start = lines[line - 1].slice(field.from - 1, field.to).trim();
@@ -192,7 +206,7 @@ const editor = (() => {
   // To the first column of the next field of the card, or of the one before; blanks are put where the line is too short.
   function nextField(back) {
     const { line, column } = place();
-    const starts = cards.fieldsOf(read[line - 1]?.[1], lines[line - 1]).map(it => it.from);
+    const starts = cardAt(line).fields.filter(it => it.name).map(it => it.from);
     const target = back ? starts.filter(it => it < column).pop() : starts.find(it => it > column);
     if (target === undefined) return goto(back ? line - 1 || 1 : line + 1, 1);
     const lacks = target - 1 - lines[line - 1].length;
@@ -208,6 +222,13 @@ const editor = (() => {
     checking.soon();
     store.soon();
     results.aged();
+  });
+  // A comment that goes on beyond the pane is shown whole under the pointer.
+  area.addEventListener("pointermove", event => {
+    const row = Math.floor((event.clientY - area.getBoundingClientRect().top + area.scrollTop) / HEIGHT), line = lines[row] ?? "";
+    const cut = cards.isComment(line) && PAD + line.length * wide - area.scrollLeft > area.clientWidth;
+    const said = cut ? commentAt(row) : "";
+    if (area.title !== said) area.title = said;
   });
   area.addEventListener("scroll", redraw);
   document.addEventListener("selectionchange", () => {
@@ -246,14 +267,10 @@ const editor = (() => {
       area.focus();
       replace(0, area.value.length, value);
     },
-    kind: line => read[line - 1] ?? ["", null],
+    card: cardAt,
     line: line => lines[line - 1] ?? "",
     count: () => lines.length,
-    // What the program reads each line as.
-    setKinds(told) {
-      cards.toldBy(read, lines, told);
-      redraw();
-    },
+    setCards,
     setMarks(found) {
       marks = new Map();
       area.setAttribute("aria-invalid", String(found.some(it => it.kind === "refused")));

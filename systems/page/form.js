@@ -9,27 +9,25 @@ const form = (() => {
 
   function follow() {
     if (!box.open || fields.contains(document.activeElement)) return;
-    const { line } = editor.place(), ruler = editor.kind(line)[1], card = editor.line(line);
-    const key = `${line} ${ruler} ${card}`;
+    const { line } = editor.place(), card = editor.card(line), text = editor.line(line);
+    const key = `${line} ${card.legend} ${card.fields.map(it => it.from)} ${text}`;
     if (key === shown) return;
     shown = key;
-    const all = ruler ? cards.fieldsOf(ruler, card) : [];
+    const all = card.fields.filter(it => it.name);
     names.replaceChildren(...results.names().map(value => make("option", { value })));
-    fields.replaceChildren(...all.map(it => boxOf(it, line, card)));
+    fields.replaceChildren(...all.map(it => boxOf(card, it, line, text)));
     if (!all.length) fields.replaceChildren(make("p", { class: "hint", textContent: "The card under the cursor has no fields." }));
   }
 
-  function boxOf(it, line, card) {
-    const wide = it.to - it.from + 1;
-    const input = make("input", { type: "text", value: card.slice(it.from - 1, it.to).trim(), maxLength: wide, size: wide,
+  function boxOf(card, it, line, text) {
+    const wide = it.to - it.from + 1, said = cards.describe(card, it);
+    const input = make("input", { type: "text", value: text.slice(it.from - 1, it.to).trim(), maxLength: wide, size: wide,
       autocomplete: "off", spellcheck: false });
-    if (it.unit === "a name") input.setAttribute("list", "names");
-    input.oninput = () => {
-      // numbers stand at the right of their columns, names at the left
-      const text = it.unit === "a name" || it.unit === "text" ? input.value.padEnd(wide) : input.value.padStart(wide);
-      editor.setColumns(line, it.from, it.to, text);
-    };
-    return make("label", { title: cards.describe(it) }, cards.nameOf(it), input, make("small", { textContent: cards.describe(it) }));
+    if (cards.isName(card, it)) input.setAttribute("list", "names");
+    // numbers stand at the right of their columns, names at the left
+    const put = value => cards.isText(card, it) ? value.padEnd(wide) : value.padStart(wide);
+    input.oninput = () => editor.setColumns(line, it.from, it.to, put(input.value));
+    return make("label", { title: said }, it.name, input, make("small", { textContent: said }));
   }
 
   // A card of each kind with its ruler as a comment over it, at the line of the cursor.
@@ -37,9 +35,11 @@ const form = (() => {
   const kinds = Object.keys(TABLES.cards).map(ruler => make("option", { value: ruler, textContent: named(ruler) }));
   insert.replaceChildren(make("option", { value: "", textContent: "a card…" }), ...kinds);
   insert.onchange = () => {
-    const ruler = insert.value, { line } = editor.place();
+    const section = insert.value, { line } = editor.place();
     insert.value = "";
-    if (ruler) editor.insertLines(line, [`C ${cards.ruler(ruler).slice(2)}`.trimEnd(), " ".repeat(cards.ruler(ruler).trimEnd().length)]);
+    if (!section) return;
+    const { comment, words } = cards.rulerAbove(section), card = cards.awaited(section);
+    editor.insertLines(line, [comment, words.padEnd(card.legend.length)], card);
   };
 
   box.ontoggle = () => {

@@ -88,6 +88,7 @@ document.addEventListener("keydown", event => {
   else if (event.key === "F1") $("help-box").showModal();
   else if (event.key === "F8") checking.next();
   else if (event.key === "Escape" && isRunning() && !$("help-box").open) stop();
+  else if (event.key === "Escape" && worth.isJudging() && !$("help-box").open) worth.stop();
   else return;
   if (event.key !== "Escape") event.preventDefault();
 });

@@ -172,9 +172,9 @@ const results = (() => {
 
   // Of what a note begins with: the section of the manual, and its page.
   const SECTIONS = [
-    [/^(PHASOR )?ENDED/, "The note and the exit status", "record"], [/REFUSED LINE/, "Which cases have one", "phasor"],
-    [/^(AUDIT )?DIFFERS|^AUDIT/, "The first difference", "audit"],
-    [/^BAD ROW/, "What is refused", "batch"], [/^BAD CARD/, "Which fault is answered", "cards"],
+    [/^(PHASOR )?ENDED/, "The note and the exit status", "record"], [/REFUSED LINE/, "Which cases have one", "tools"],
+    [/^(AUDIT )?DIFFERS|^AUDIT/, "The first difference", "tools"],
+    [/^BAD ROW/, "Which tables are refused", "tools"], [/^BAD CARD/, "Which fault is answered", "cards"],
   ];
 
   function tellNote(kind, note, said) {
@@ -300,6 +300,7 @@ const results = (() => {
     if (told.note) files.push({ name: `${name}.note.txt`, bytes: told.note, what: "the note" });
     if (told.summary) files.push({ name: `${name}.${what}.txt`, bytes: told.summary, what: `what ${what} prints` });
     const keeps = drawn?.name === name && before !== null, tab = byItself ? () => {} : choose;
+    if (what === "run" && (status === 0 || status === 3)) worth.of(made);
     if (told.record) {
       if (record) references.before(record.parsed, record.name);
       record = { name, parsed: told.record, cfg: { name: `${name}.cfg`, bytes: told.cfg }, dat: { name: `${name}.dat`, bytes: told.dat } };
@@ -354,6 +355,8 @@ const results = (() => {
     get drawn() { return drawn?.record ?? null; },
     get batch() { return batched; },
     axis: (place = 0) => panel.picture?.axes[place],
+    // The case has another name, as one that is kept for the first time: what is drawn is of it still.
+    named(name) { if (drawn) drawn.name = name; },
     setListing(text) {
       listing = text;
       showListing();
@@ -365,6 +368,7 @@ const results = (() => {
       $("text").textContent = "";
       $("phasors").hidden = true;
       $("for-rows").hidden = true;
+      worth.forget();
       references.forget();
       tellNote("", "", "");
       draw(null);

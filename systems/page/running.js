@@ -66,6 +66,7 @@ async function run(byItself = false) {
   await checking.settled();
   const call = asked();
   if (!call) return;
+  worth.forget(byItself);
   const made = { ...caseNow(), latin: open.latin, lineEnd: open.lineEnd };
   busy(true, made.what === "show" ? "reading" : "running");
   const told = made.what === "vary" ? await varying() : made.what === "batch" ? await inParts(call)
@@ -82,7 +83,7 @@ async function run(byItself = false) {
 
 // The cards of a case that ends after a part of its time; null where its card of times can't be told.
 function shortened(lines, part) {
-  const line = lines.findIndex((_, at) => editor.kind(at + 1)[0] === "the first miscellaneous card");
+  const line = lines.findIndex((_, at) => editor.card(at + 1).kind === "the first miscellaneous card");
   const card = lines[line]?.padEnd(16), [step, end] = card
     ? [card.slice(0, 8), card.slice(8, 16)].map(it => Number(it.replace(/d/i, "E"))) : [];
   if (!(end * part >= 20 * step)) return null;
@@ -161,7 +162,7 @@ async function varying() {
 
 // The field under the cursor is the one that is varied.
 function takeField() {
-  const { line, column } = editor.place(), field = cards.fieldsAt(editor.kind(line)[1], editor.line(line), column)[0];
+  const { line, column } = editor.place(), [field] = cards.fieldsAt(editor.card(line), column);
   if (!field) return say("No field reads the column under the cursor.");
   $("vary-line").value = line;
   $("vary-from").value = field.from;

@@ -177,11 +177,59 @@ const TESTS = (() => {
       near(it.deviation, Math.sqrt(5 / 3), 1e-12);
       same(Study.statistics([]), null);
     },
-    "what the program says of a line counts more than a guess": () => {
-      const own = Cards({ cards: {} }), lines = ["BEGIN NEW DATA CASE", "", "", "  A"], found = own.kinds(lines);
-      same(found[3], ["a branch card", "Series branch: resistance, inductance, capacitance 1"]);
-      same(own.toldBy(found, lines, [{ line: 4, kind: "a switch card" }])[3], ["a switch card", "Switch 1"]);
-      same(own.toldBy(found, lines, [{ line: 4, kind: "the end of a section" }])[3], ["the end of a section", null]);
+    "what the program tells of each line": () => {
+      const fields = [{ from: 1, to: 2, name: "type: 11 a step, 14 a cosine", types: [], unit: "a whole number", range: "", blank: "refused" },
+        { from: 3, to: 8, name: "name: of a node", types: [], unit: "a name", range: "", blank: "refused" },
+        { from: 31, to: 40, name: "T0, the rise", types: [12], unit: "s", range: "0 to 1", blank: "0" },
+        { from: 31, to: 40, name: "phase in degrees", types: [14], unit: "degrees", range: "", blank: "0" }];
+      const ruler = "TYNAME--KIAMPLITUDE-FREQUENCY-T0/PHASE--", own = Cards({ cards: { "Source 1": { ruler, fields, kinds: { 14: "a cosine" } } } });
+      const told = own.read(`1\tthe card BEGIN NEW DATA CASE\t\n7\ta source card\t${ruler}\n\t1-2\tTY\t14\n\t3-8\tNAME\tSRC\n`
+        + "\t31-40\tT0/PHASE\t-90.\tdegree\t-3000000 to 1000000000\t-90\n8\tdue: a source card\nwarning, line 7, a\nrefused\t7\t3-8\tNAME\nBAD CARD LINE 7\n^ why\n");
+      same([...told.cards.keys()], [1, 7]);
+      same([told.due, told.refused], ["a source card", { line: 7, from: 3, to: 8, name: "NAME", note: "BAD CARD LINE 7", why: "^ why" }]);
+      const card = told.cards.get(7);
+      same([card.kind, card.section, own.typeName(card)], ["a source card", "Source 1", "a cosine"]);
+      same(card.fields.map(it => own.describe(card, it)), ["type: 11 a step, 14 a cosine; a whole number; blank: refused",
+        "of a node; a name; blank: refused", "phase in degrees; degrees; -3e6 to 1e9; blank means 0"]);
+      same(own.describe(own.awaited("Source 1"), { from: 31, to: 40, name: "T0/PHASE" }),
+        "T0, the rise; s; 0 to 1; blank means 0; or phase in degrees; degrees; blank means 0");
+      const one = (text, value) => own.readAs({ from: 3, to: 8, text, value }, `14${text.padStart(6)}`);
+      same([["1.5D1", "15"], [".12345", "0.1234"], ["0.", "never"], ["", "0"], ["1.", ""], ["2-3", "0.002"]].map(it => one(...it)),
+        ["", "0.1234", "never", "", "", "0.002"]);
+      same(own.readAs({ from: 3, to: 8, text: "1.", value: "1" }, "14    2."), "");
+      same(own.fieldsAt(card, 8).map(it => it.name), ["NAME"]);
+      same([own.isName(card, card.fields[1]), own.isName(card, card.fields[2])], [true, false]);
+      same(own.read("refused\t1\t5\t\nBAD CARD LINE 1\n").refused, { line: 1, from: 5, to: 5, name: "", note: "BAD CARD LINE 1", why: "" });
+    },
+    "lines keep their cards until the next answer": () => {
+      const own = Cards({ cards: {} }), kinds = found => found.map(it => it.kind), lines = ["a", "b", "C c", "d", "e"];
+      const all = own.told(lines, new Map([1, 2, 4, 5].map(line => [line, { kind: `kind ${line}` }])), []);
+      same(kinds(all), ["kind 1", "kind 2", "a comment", "kind 4", "kind 5"]);
+      same(kinds(own.carried(lines, all, ["a", "b!", "C c", "d", "e"])), ["kind 1", "kind 2", "a comment", "kind 4", "kind 5"]);
+      same(kinds(own.carried(lines, all, ["a", "b", "C c", "new", "d", "e"])), ["kind 1", "kind 2", "a comment", "", "kind 4", "kind 5"]);
+      same(kinds(own.carried(lines, all, ["a", "C c", "d", "e"])), ["kind 1", "a comment", "kind 4", "kind 5"]);
+      same(kinds(own.carried(lines, all, ["a", "b", "c", "d", "e"])), ["kind 1", "kind 2", "", "kind 4", "kind 5"]);
+      same(kinds(own.carried([], [], ["a", "C"])), ["", "a comment"]);
+      same(kinds(own.carried(["x", "x"], [{ kind: "1" }, { kind: "2" }], ["x"])), ["1"]);
+    },
+    "a blameless card stands in place of a refused one": () => {
+      const own = Cards({ cards: {} });
+      same(["a block card", "a branch card", "a switch card"].map(kind => own.standIn(" 9A", { kind })), [" 7(BAD)", "C", "C"]);
+      same(own.standIn("99A     B       9.", { kind: "a branch card" }), "C");
+      same(own.standIn("99A     B", { kind: "a branch card" }), "99(1)   (2)");
+      same(own.standIn("C", { kind: "a switch card" }), null);
+    },
+    "a ruler as a comment keeps the names of its fields": () => {
+      const own = Cards({ cards: {
+        time: { ruler: "DELTAT--TMAX----XOPT----COPT----", fields: [{ from: 1, to: 8 }] },
+        points: { ruler: "POWER-----POWER-----", fields: [{ from: 1, to: 10 }] },
+        branch: { ruler: "TYBUS1--BUS2--   A", fields: [{ from: 1, to: 2 }] },
+        tight: { ruler: "T-CLOSE-T-OPEN--", fields: [{ from: 1, to: 8 }] },
+        words: { ruler: "RESIDUAL TOLERANCE      TOLER---", fields: [{ from: 25, to: 32 }] },
+      } });
+      same(["time", "points", "branch", "tight", "words"].map(it => own.rulerAbove(it).comment), ["C DELTATTMAX----XOPT----COPT----",
+        "C POWER---POWER-----", "C BUS1--BUS2--   A", "C T-CLOST-OPEN--", `C${" ".repeat(23)}TOLER---`]);
+      same(["branch", "words"].map(it => own.rulerAbove(it).words), ["", "RESIDUAL TOLERANCE"]);
     },
     "fixes of a refused card": () => {
       const labels = (lines, refusal, names = []) => Fixes.of(lines, refusal, names).map(it => it.label);
